@@ -1,0 +1,65 @@
+-- Laws of checks in their order: a number comes back exactly when its check fails and every earlier one passes; a call is done
+-- exactly when all pass; and no second outcome meets an equation that a first one meets. Assumes nothing.
+use mathlib.Core.Path.{_≡_, refl, sym, ap, subst, _∙_}
+use mathlib.Core.Logic.{_↔_}
+use mathlib.Core.Bool.{Bool, true, false, cond}
+use mathlib.Core.List.{List, [], _∷_}
+use Prim.Native.Nat.{ℕ}
+use lib.Dec.{eqb}
+use borrow.Author.Tests.{eq-eqb, ne-eqb}
+use Rattle.algorithm.specs.Refusals.{done}
+use Rattle.algorithm.specs.Checks.{Check, firstFailing, decided, answered, Pass, Fail, Refusing}
+use Rattle.algorithm.specs.Checks.Pass.{all, and}
+use Rattle.algorithm.specs.Checks.Fail.{here, later}
+use Rattle.algorithm.specs.Checks.Refusing.{none, more}
+
+-- a test came out one way or the other
+data Test (b : Bool) : Type 0 where
+  yes : b ≡ true → Test b
+  no : b ≡ false → Test b
+
+test : (b : Bool) → Test b
+test true = yes refl
+test false = no refl
+
+pub fails-number : {cs : List Check} {n : ℕ} → Fail cs n → firstFailing cs ≡ n
+fails-number (here e) = rw e
+fails-number (later e f) = rw e (fails-number f)
+
+pub number-fails : (cs : List Check) (n : ℕ) → (n ≡ done → ⊥) → firstFailing cs ≡ n → Fail cs n
+number-fails [] n z e = absurd (z (sym e))
+number-fails (c ∷ cs) n z e = elim (test (c .passes)) [
+  | yes t ↦ later t (number-fails cs n z (rw t at e))
+  | no t ↦ subst (Fail (c ∷ cs)) (rw t at e) (here t)
+]
+
+-- the number comes back exactly when its check fails and every earlier one passes
+pub exactly : (cs : List Check) (n : ℕ) → (n ≡ done → ⊥) → firstFailing cs ≡ n ↔ Fail cs n
+exactly cs n z = (number-fails cs n z, fails-number)
+
+pub passes-done : {cs : List Check} → Pass cs → firstFailing cs ≡ done
+passes-done all = refl
+passes-done (and e p) = rw e (passes-done p)
+
+pub done-passes : (cs : List Check) → Refusing cs → firstFailing cs ≡ done → Pass cs
+done-passes [] r e = all
+done-passes (c ∷ cs) (more z r) e = elim (test (c .passes)) [
+  | yes t ↦ and t (done-passes cs r (rw t at e))
+  | no t ↦ absurd (z (rw t at e))
+]
+
+-- a call is done exactly when every check passes
+pub exactly-done : (cs : List Check) → Refusing cs → firstFailing cs ≡ done ↔ Pass cs
+exactly-done cs r = (done-passes cs r, passes-done)
+
+-- where every check passes the work stands, and where one fails what was given
+module _ {ℓ} {A : Type ℓ} {cs : List Check} (work given : A) where
+  pub decided-work : Pass cs → decided cs work given ≡ work
+  decided-work p = rw (eq-eqb (firstFailing cs) done (passes-done p))
+
+  pub decided-given : {n : ℕ} → (n ≡ done → ⊥) → Fail cs n → decided cs work given ≡ given
+  decided-given z f = rw (ne-eqb (firstFailing cs) done (λ e. z (sym (fails-number f) ∙ e)))
+
+-- no second outcome: what meets the equation of a call is one
+pub one-outcome {ℓ} : {A : Type ℓ} {a b outcome : A} → a ≡ outcome → b ≡ outcome → a ≡ b
+one-outcome e f = e ∙ sym f

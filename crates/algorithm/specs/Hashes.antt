@@ -1,0 +1,41 @@
+-- The hashes that we make: their numbers and their sizes (document 01, "The two hashes"). Assumes nothing.
+pub mod Laws
+use mathlib.Core.Bool.{Bool, cond, _||_}
+use Prim.Native.Nat.{ℕ}
+use lib.Dec.{eqb}
+use Rattle.algorithm.specs.declared.hashes.Hash.{Hash}
+use Rattle.algorithm.specs.declared.hashes.Hash.the-variants.{Sha256, Sha512}
+use Rattle.algorithm.specs.declared.hashes.Named.{Named}
+use Rattle.algorithm.specs.declared.hashes.Named.the-variants.{Is, Unknown}
+
+-- the number that names a hash
+abbrev pub numberOf : Hash → ℕ
+numberOf Sha256 = 1
+numberOf Sha512 = 2
+
+-- the bytes of a block
+abbrev pub blockOf : Hash → ℕ
+blockOf Sha256 = 64
+blockOf Sha512 = 128
+
+-- the bytes of a digest
+abbrev pub sizeOf : Hash → ℕ
+sizeOf Sha256 = 32
+sizeOf Sha512 = 64
+
+-- the bytes of the shortest tag, half a digest
+abbrev pub shortestOf : Hash → ℕ
+shortestOf Sha256 = 16
+shortestOf Sha512 = 32
+
+-- whether a number names a hash
+abbrev pub names : ℕ → Bool
+names n = eqb n (numberOf Sha256) || eqb n (numberOf Sha512)
+
+-- the hash that a number names, and hash 1 where it names none
+abbrev pub hashOf : ℕ → Hash
+hashOf n = cond (eqb n (numberOf Sha512)) Sha512 Sha256
+
+-- what `which` answers
+abbrev pub whichOf : ℕ → Named
+whichOf n = cond (names n) (Is (hashOf n)) Unknown

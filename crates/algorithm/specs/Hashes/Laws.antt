@@ -1,0 +1,41 @@
+-- Laws of the hashes that we make, for the layers above. Assumes nothing.
+use mathlib.Core.Path.{_≡_, refl, sym, ap, _∙_}
+use mathlib.Core.Bool.{Bool, true, false, cond}
+use Prim.Native.Nat.{ℕ, _*_, _≤_}
+use native.Mathlib.Omega.{arith}
+use lib.Dec.{lit≤}
+use Rattle.algorithm.specs.Hashes.{numberOf, blockOf, sizeOf, shortestOf, names, hashOf, whichOf}
+use Rattle.algorithm.specs.declared.hashes.Hash.{Hash}
+use Rattle.algorithm.specs.declared.hashes.Hash.the-variants.{Sha256, Sha512}
+use Rattle.algorithm.specs.declared.hashes.Named.{Named}
+use Rattle.algorithm.specs.declared.hashes.Named.the-variants.{Is, Unknown}
+
+-- the number of a hash names it
+pub number-names : (h : Hash) → (names (numberOf h) ≡ true) × (hashOf (numberOf h) ≡ h)
+number-names Sha256 = (refl, refl)
+number-names Sha512 = (refl, refl)
+
+-- what `which` answered says whether the number names a hash, and which
+module _ (n : ℕ) where
+  unknown : (b : Bool) (h : Hash) → cond b (Is h) Unknown ≡ Unknown → b ≡ false
+  unknown true h e = let z : _≡_ {A = ℕ} 0 1 = cc in absurd (omega arith)
+  unknown false h e = refl
+
+  pub which-unknown : whichOf n ≡ Unknown → names n ≡ false
+  which-unknown e = unknown (names n) (hashOf n) e
+
+  known : (b : Bool) (g h : Hash) → cond b (Is g) Unknown ≡ Is h → (b ≡ true) × (g ≡ h)
+  known true g h e = (refl, cc)
+  known false g h e = let z : _≡_ {A = ℕ} 0 1 = cc in absurd (omega arith)
+
+  pub which-is : (h : Hash) → whichOf n ≡ Is h → (names n ≡ true) × (hashOf n ≡ h)
+  which-is h e = known (names n) (hashOf n) h e
+
+-- the shortest tag is half a digest, and a digest is shorter than a block
+pub half-digest : (h : Hash) → 2 * shortestOf h ≡ sizeOf h
+half-digest Sha256 = refl
+half-digest Sha512 = refl
+
+pub digest-fits-block : (h : Hash) → sizeOf h ≤ blockOf h
+digest-fits-block Sha256 = lit≤ tt
+digest-fits-block Sha512 = lit≤ tt

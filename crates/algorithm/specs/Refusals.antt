@@ -1,0 +1,78 @@
+-- The numbers that come back, by name (document 01, "Numbers that come back"). Assumes nothing.
+use Prim.Native.Nat.{ℕ}
+
+-- done, or the tag matches
+abbrev pub done : ℕ
+done = 0
+
+-- the tag differs
+abbrev pub tagDiffers : ℕ
+tagDiffers = 1
+
+-- the number names no hash
+abbrev pub unknownHash : ℕ
+unknownHash = 2
+
+-- key, salt or PRK over the limit
+abbrev pub keyTooLong : ℕ
+keyTooLong = 3
+
+-- hashed bytes over the limit
+abbrev pub messageTooLong : ℕ
+messageTooLong = 4
+
+-- tag length outside its range
+abbrev pub tagLengthOutOfRange : ℕ
+tagLengthOutOfRange = 5
+
+-- a presented tag, or an output of fixed size, is not of that size
+abbrev pub wrongSize : ℕ
+wrongSize = 6
+
+-- PRK shorter than a digest
+abbrev pub prkTooShort : ℕ
+prkTooShort = 7
+
+-- info over its limit
+abbrev pub infoTooLong : ℕ
+infoTooLong = 8
+
+-- output over 255 digests
+abbrev pub outputTooLong : ℕ
+outputTooLong = 9
+
+-- the state is not sound
+abbrev pub stateNotSound : ℕ
+stateNotSound = 10
+
+-- the report is too short, or its count is not its length less four
+abbrev pub wrongReportLength : ℕ
+wrongReportLength = 11
+
+-- the report's version is not 1
+abbrev pub unknownVersion : ℕ
+unknownVersion = 12
+
+-- the report has too many sites
+abbrev pub tooManySites : ℕ
+tooManySites = 13
+
+-- a label's length is out of range
+abbrev pub labelLengthOutOfRange : ℕ
+labelLengthOutOfRange = 14
+
+-- a site runs into the tag, or bytes are left between
+abbrev pub sitesMisplaced : ℕ
+sitesMisplaced = 15
+
+-- the sum of live bytes is over 2^64 - 1
+abbrev pub sumTooLarge : ℕ
+sumTooLarge = 16
+
+-- there is no site at that place
+abbrev pub noSuchSite : ℕ
+noSuchSite = 17
+
+-- the most bytes of a key, and the most bytes hashed in all (refusals 3 and 4)
+abbrev pub mostBytes : ℕ
+mostBytes = 4294967295

@@ -1,0 +1,55 @@
+// The hashes that we make: their numbers and their sizes.
+ghost use mathlib.Core.Path.{_≡_};
+ghost use Rattle.algorithm.specs.Hashes.{whichOf, blockOf, sizeOf, shortestOf};
+
+pub enum Hash {
+    Sha256,
+    Sha512,
+}
+
+// What a number names.
+pub enum Named {
+    Is(Hash),
+    Unknown,
+}
+
+// The hash that a number names.
+pub fn which(number: u32) -> Named
+    ensures { λ r. ⌜ r ≡ whichOf number ⌝ }
+{
+    match number {
+        1 => Named::Is(Hash::Sha256),
+        2 => Named::Is(Hash::Sha512),
+        _ => Named::Unknown,
+    }
+}
+
+// The bytes of a block.
+pub fn block_size(hash: Hash) -> usize
+    ensures { λ r. ⌜ r ≡ blockOf hash ⌝ }
+{
+    match hash {
+        Hash::Sha256 => 64,
+        Hash::Sha512 => 128,
+    }
+}
+
+// The bytes of a digest.
+pub fn digest_size(hash: Hash) -> usize
+    ensures { λ r. ⌜ r ≡ sizeOf hash ⌝ }
+{
+    match hash {
+        Hash::Sha256 => 32,
+        Hash::Sha512 => 64,
+    }
+}
+
+// The bytes of the shortest tag, half a digest (RFC 2104).
+pub fn shortest_tag(hash: Hash) -> usize
+    ensures { λ r. ⌜ r ≡ shortestOf hash ⌝ }
+{
+    match hash {
+        Hash::Sha256 => 16,
+        Hash::Sha512 => 32,
+    }
+}

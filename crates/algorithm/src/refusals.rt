@@ -1,0 +1,41 @@
+// The numbers that come back (document 01's table), by name; specs/Refusals.antt has the same ones for the contracts.
+
+// Done, or the tag matches.
+pub const DONE: u32 = 0;
+// The tag differs.
+pub const TAG_DIFFERS: u32 = 1;
+// The number names no hash.
+pub const UNKNOWN_HASH: u32 = 2;
+// Key, salt or PRK over the limit.
+pub const KEY_TOO_LONG: u32 = 3;
+// Hashed bytes over the limit.
+pub const MESSAGE_TOO_LONG: u32 = 4;
+// Tag length outside its range.
+pub const TAG_LENGTH_OUT_OF_RANGE: u32 = 5;
+// A presented tag, or an output of fixed size, is not of that size.
+pub const WRONG_SIZE: u32 = 6;
+// PRK shorter than a digest.
+pub const PRK_TOO_SHORT: u32 = 7;
+// Info over its limit.
+pub const INFO_TOO_LONG: u32 = 8;
+// Output over 255 digests.
+pub const OUTPUT_TOO_LONG: u32 = 9;
+// The state is not sound.
+pub const STATE_NOT_SOUND: u32 = 10;
+// The report is too short, or its count is not its length less four.
+pub const WRONG_REPORT_LENGTH: u32 = 11;
+// The report's version is not 1.
+pub const UNKNOWN_VERSION: u32 = 12;
+// The report has too many sites.
+pub const TOO_MANY_SITES: u32 = 13;
+// A label's length is out of range.
+pub const LABEL_LENGTH_OUT_OF_RANGE: u32 = 14;
+// A site runs into the tag, or bytes are left between.
+pub const SITES_MISPLACED: u32 = 15;
+// The sum of live bytes is over 2^64 - 1.
+pub const SUM_TOO_LARGE: u32 = 16;
+// There is no site at that place.
+pub const NO_SUCH_SITE: u32 = 17;
+
+// The most bytes of a key, and the most bytes hashed in all (refusals 3 and 4).
+pub const MOST_BYTES: u64 = 4294967295;

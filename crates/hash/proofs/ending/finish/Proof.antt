@@ -1,0 +1,68 @@
+-- `hash::ending::finish`: its checks in their order, then the digest. Assumes nothing.
+use mathlib.Core.Path.{_≡_, sym, ap, _∙_}
+use mathlib.Core.Bool.{true}
+use mathlib.Core.List.{List}
+use Prim.Native.Nat.{ℕ}
+use native.Mathlib.Omega.{arith}
+use borrow.Author.Needs.{needs}
+use borrow.Author.Tests.{not-true, not-false}
+use denote.Ref.{now}
+use Rattle.algorithm.specs.Refusals.{done}
+use Rattle.hash.specs.Description.{describe}
+use Rattle.hash.specs.Sha2.{wordSize, spell, keep}
+use Rattle.hash.specs.State.{soundOf, lastWords, endOf}
+use Rattle.hash.specs.State.Laws.{sound-count, sound-words}
+use Rattle.hash.specs.State.Open.{end-is}
+use Rattle.hash.specs.Calls.Laws.{written, finish-not-sound, finish-wrong-size, finish-accepted}
+use Rattle.hash.proofs.LastBlocks.{digest-words, keep-all}
+use Rattle.hash.proofs.ending.finish.Statement.{statement}
+use Rattle.hash.proofs.ending.finish.Tie as tie
+
+returns : tie.Need-returns
+returns c =
+    let start = c .before .before .before in
+    sym (finish-not-sound (start .args .state) (now (start .args .out)) (sym (c .before .sound .ensures) ∙ not-true _ (c .if1 .taken)))
+
+returns-2 : tie.Need-returns-2
+returns-2 c =
+    let start = c .before .before .before .before .before in
+    let size = c .before .digest-size .ensures in
+    sym (finish-wrong-size (start .args .state) (now (start .args .out)) (sym (c .before .before .before .sound .ensures) ∙ not-false _ (c .before .before .if1 .left))
+    (λ e. c .if2 .taken (e ∙ sym size)))
+
+last-words-requires : tie.Need-last-words-requires
+last-words-requires c κs =
+    let s = c .before .before .before .before .before .args .state in
+    let ok : soundOf s ≡ true = sym (c .before .before .before .sound .ensures) ∙ not-false _ (c .before .before .if1 .left) in
+    record { count = sound-count s ok; words = sound-words s ok }
+
+put-words-requires : tie.Need-put-words-requires
+put-words-requires c κs =
+    let d = digest-words (c .before .before .before .before .before .before .before .before .args .state .hash) in
+    let e = c .before .word-size .ensures in
+    omega (arith, c .before .before .before .if2 .left, c .before .before .before .before .digest-size .ensures)
+
+returns-3 : tie.Need-returns-3
+returns-3 c =
+    let start = c .before .before .before .before .before .before .before .before .before .before .before in
+    let s = start .args .state in
+    let ok : soundOf s ≡ true =
+    sym (c .before .before .before .before .before .before .before .before .before .sound .ensures) ∙ not-false _ (c .before .before .before .before .before .before .before .before .if1 .left)
+    in
+    let size = c .before .before .before .before .before .before .if2 .left ∙ c .before .before .before .before .before .before .before .digest-size .ensures in
+    let last = c .before .before .before .before .before .last-words in
+    let put = c .before .before .put-words in
+    let digest : put .last .0 ≡ endOf s =
+    put .ensures
+    ∙ ap (λ (k : ℕ). spell k (last .result)) (c .before .before .before .before .word-size .ensures)
+    ∙ keep-all (s .hash) (last .result) (last .ok .1 .0 .1)
+    ∙ ap (keep (describe (s .hash))) (last .ensures)
+    ∙ sym (end-is s)
+    in
+    ap (written done) digest ∙ sym (finish-accepted s (now (start .args .out)) ok size)
+
+pub finish-spec : {M : Type 1} → statement M
+finish-spec =
+    tie.close
+    (tie.spec (λ c κs. search needs) returns (λ c κs. search needs) returns-2 last-words-requires (λ c κs. search needs) put-words-requires
+    (λ c. search needs) returns-3)

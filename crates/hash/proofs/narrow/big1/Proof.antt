@@ -1,0 +1,16 @@
+-- `hash::narrow::big1` is three rotations. Assumes nothing.
+use borrow.Author.Needs.{needs}
+use Rattle.hash.specs.Description.{narrow}
+use Rattle.hash.specs.Sha2.{big1}
+use Rattle.hash.proofs.Width.{big-code}
+use Rattle.hash.proofs.narrow.big1.Statement.{statement}
+use Rattle.hash.proofs.narrow.big1.Tie as tie
+
+returns : tie.Need-returns
+unfolding big1 narrow
+returns c =
+    big-code 32 (narrow .big1-by) (c .before .before .before .args .x) (c .before .before .rotr .ensures)
+    (c .before .rotr2 .ensures) (c .rotr3 .ensures)
+
+pub big1-spec : {M : Type 1} → statement M
+big1-spec = tie.close (tie.spec (λ c κs. search needs) (λ c κs. search needs) (λ c κs. search needs) returns)

@@ -1,0 +1,12 @@
+-- `hash::narrow::rotr` is two shifts. Assumes nothing.
+use native.Mathlib.Omega.{arith}
+use borrow.Author.Needs.{needs}
+use Rattle.hash.proofs.Width.{rotr-code}
+use Rattle.hash.proofs.narrow.rotr.Statement.{statement}
+use Rattle.hash.proofs.narrow.rotr.Tie as tie
+
+returns : tie.Need-returns
+returns c = rotr-code 32 (c .args .n) (omega arith) (c .fits .x .fits)
+
+pub rotr-spec : {M : Type 1} → statement M
+rotr-spec = tie.close (tie.spec (λ c. search needs) (λ c. search needs) (λ c. search needs) returns)

@@ -1,0 +1,42 @@
+-- `hash::pieces::taken`: a piece fills a block or it does not. Assumes nothing.
+use mathlib.Core.Path.{_≡_, sym, _∙_}
+use native.Mathlib.Omega.{arith}
+use lib.ListN.{length, length-map}
+use borrow.Author.Needs.{needs}
+use Rattle.hash.specs.State.Laws.{block-most, held-less, sound-words}
+use Rattle.hash.specs.State.Open.{kept-after}
+use Rattle.hash.proofs.pieces.taken.Statement.{statement}
+use Rattle.hash.proofs.pieces.taken.Tie as tie
+
+sub-room : tie.Need-sub-room
+sub-room c = omega (arith, c .held .ensures, c .before .block-size .ensures, held-less (c .before .before .before .args .state))
+
+kept-requires : tie.Need-kept-requires
+kept-requires c κs =
+    let start = c .before .before .before .before in
+    let s = start .args .state in
+    omega (arith, c .before .held .ensures, c .before .before .block-size .ensures, held-less s, block-most (s .hash), start .pre .fits)
+
+returns : tie.Need-returns
+returns c =
+    let start = c .before .before .before .before .before in
+    let s = start .args .state in
+    let held = c .before .before .held .ensures in
+    let w : length (s .waiting) ≡ 128 = sym (length-map (s .waiting) (λ v. v)) ∙ start .good .0 .1 .1 .1 .1 .1 .0 .1 .0 .1 in
+    c .kept .ensures
+    ∙ rw held
+    (kept-after s (start .args .piece .now) w (start .pre .sound) (omega (arith, held, c .before .before .before .block-size .ensures, held-less s)))
+
+filled-requires : tie.Need-filled-requires
+filled-requires c κs =
+    let start = c .before .before .before .before in
+    let s = start .args .state in
+    let a = c .before .held .ensures in
+    let b = c .before .before .block-size .ensures in
+    let l = held-less s in
+    record { fills = omega arith; within = omega arith; fits = start .pre .fits; words = sound-words s (start .pre .sound) }
+
+pub taken-spec : {M : Type 1} → statement M
+taken-spec =
+    tie.close
+    (tie.spec (λ c κs. search needs) (λ c κs. search needs) sub-room kept-requires returns filled-requires (λ c. search needs))

@@ -1,0 +1,14 @@
+-- `hash::wide::small0` is two rotations and a shift. Assumes nothing.
+use borrow.Author.Needs.{needs}
+use Rattle.hash.specs.Description.{wide}
+use Rattle.hash.specs.Sha2.{small0}
+use Rattle.hash.proofs.Width.{small-code}
+use Rattle.hash.proofs.wide.small0.Statement.{statement}
+use Rattle.hash.proofs.wide.small0.Tie as tie
+
+returns : tie.Need-returns
+unfolding small0 wide
+returns c = small-code 64 (wide .small0-by) (c .before .before .args .x) (c .before .rotr .ensures) (c .rotr2 .ensures)
+
+pub small0-spec : {M : Type 1} → statement M
+small0-spec = tie.close (tie.spec (λ c κs. search needs) (λ c κs. search needs) returns)

@@ -1,0 +1,23 @@
+-- Bytes cut into blocks, over the size of a block, and a step folded over them. Assumes nothing.
+pub mod Laws
+use mathlib.Core.List.{List, [], _∷_, foldl}
+use Prim.Native.Nat.{ℕ, zero, suc, _*_, _/_}
+use lib.ListN.{length, take, drop}
+
+module _ (B : ℕ) where
+  -- the first n blocks of the bytes
+  unfoldable pub firstBlocks : ℕ → List ℕ → List (List ℕ)
+  firstBlocks zero l = []
+  firstBlocks (suc n) l = take B l ∷ firstBlocks n (drop B l)
+
+  -- all whole blocks of the bytes
+  unfoldable pub wholeBlocks : List ℕ → List (List ℕ)
+  wholeBlocks l = firstBlocks (length l / B) l
+
+  -- what is left behind the last whole block
+  unfoldable pub leftOver : List ℕ → List ℕ
+  leftOver l = drop (length l / B * B) l
+
+  -- the words after every whole block of the bytes, with a step from words and a block to words
+  unfoldable pub wordsAfter : (List ℕ → List ℕ → List ℕ) → List ℕ → List ℕ → List ℕ
+  wordsAfter step ws l = foldl step ws (wholeBlocks l)

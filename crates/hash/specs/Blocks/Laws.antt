@@ -1,0 +1,174 @@
+-- Laws of bytes cut into blocks, over the size of a block and the step. Assumes nothing.
+use mathlib.Core.Path.{_≡_, refl, sym, ap, _∙_}
+use mathlib.Core.List.{List, [], _∷_, _++_, append-assoc, append-nil, foldl, foldl-append, flatten}
+use Prim.Native.Nat.{ℕ, zero, suc, _+_, _-_, _*_, _/_, _%_, _≤_, _<_}
+use native.Mathlib.Nat.{zero-add, zero-mul, suc-add, one-mul, add-mul, div-self, div-eq-of-lt, div-eq-sub-div, div-mul-le-self, mod-eq-sub-div-mul, mul-add-div-right, mod-lt, div-add-mod'}
+use native.Mathlib.Numerals.{add-one}
+use native.Mathlib.Omega.{arith}
+use lib.ListN.{length, take, drop, length-append, length-drop, drop-of-length-le, take-append-drop}
+use lib.Seq.{take-append-le, drop-append-le, drop-drop, take-length, take-add, length-take-le}
+use Rattle.octets.specs.Parts.{part-all}
+use Rattle.hash.specs.Blocks.{firstBlocks, wholeBlocks, leftOver, wordsAfter}
+
+-- every list of a list has B elements
+pub data Sized (B : ℕ) : List (List ℕ) → Type 0 where
+  none : Sized B []
+  more : {b : List ℕ} {bs : List (List ℕ)} → length b ≡ B → Sized B bs → Sized B (b ∷ bs)
+
+module _ (B : ℕ) where
+  -- what stands behind n blocks plays no part in them
+  first-front : (n : ℕ) (l t : List ℕ) → n * B ≤ length l → firstBlocks B n (l ++ t) ≡ firstBlocks B n l
+  unfolding firstBlocks
+  first-front zero l t h = refl
+  first-front (suc n) l t h =
+      let hB : B ≤ length l = omega arith in
+      rw (take-append-le B l t hB, drop-append-le B l t hB)
+      (ap (λ (bs : List (List ℕ)). take B l ∷ bs) (first-front n (drop B l) t (simp length-drop (omega arith))))
+
+  first-add : (n m : ℕ) (l : List ℕ) → firstBlocks B (n + m) l ≡ firstBlocks B n l ++ firstBlocks B m (drop (n * B) l)
+  unfolding firstBlocks
+  first-add zero m l = rw (zero-add, zero-mul)
+  first-add (suc n) m l =
+      let e : B + n * B ≡ suc n * B = omega arith in
+      ap (λ (k : ℕ). firstBlocks B k l) (suc-add n m)
+      ∙ ap (λ (bs : List (List ℕ)). take B l ∷ bs)
+      (first-add n m (drop B l)
+      ∙ ap (λ (r : List ℕ). firstBlocks B n (drop B l) ++ firstBlocks B m r) (drop-drop (n * B) B l ∙ ap (λ (k : ℕ). drop k l) e))
+
+  first-length : (n : ℕ) (l : List ℕ) → length (firstBlocks B n l) ≡ n
+  unfolding firstBlocks
+  first-length zero l = refl
+  first-length (suc n) l = ap suc (first-length n (drop B l))
+
+  first-sized : (n : ℕ) (l : List ℕ) → n * B ≤ length l → Sized B (firstBlocks B n l)
+  unfolding firstBlocks
+  first-sized zero l h = none
+  first-sized (suc n) l h = more (length-take-le B l (omega arith)) (first-sized n (drop B l) (simp length-drop (omega arith)))
+
+  first-flat : (n : ℕ) (l : List ℕ) → flatten (firstBlocks B n l) ≡ take (n * B) l
+  unfolding firstBlocks flatten
+  first-flat zero l = ap (λ (k : ℕ). take k l) (sym (zero-mul B))
+  first-flat (suc n) l =
+      let e : B + n * B ≡ suc n * B = omega arith in
+      ap (λ (r : List ℕ). take B l ++ r) (first-flat n (drop B l))
+      ∙ sym (take-add B (n * B) l)
+      ∙ ap (λ (k : ℕ). take k l) e
+
+  -- how many whole blocks there are, each of B bytes; bytes that the blocks fill are the blocks joined
+  pub whole-length : (l : List ℕ) → length (wholeBlocks B l) ≡ length l / B
+  unfolding wholeBlocks
+  whole-length l = first-length (length l / B) l
+
+  pub whole-sized : (l : List ℕ) → Sized B (wholeBlocks B l)
+  unfolding wholeBlocks
+  whole-sized l = first-sized (length l / B) l (div-mul-le-self (length l) B)
+
+  pub whole-flat : (l : List ℕ) → length l / B * B ≡ length l → flatten (wholeBlocks B l) ≡ l
+  unfolding wholeBlocks
+  whole-flat l h = first-flat (length l / B) l ∙ ap (λ (k : ℕ). take k l) h ∙ take-length l
+
+  -- what is left: its length, and two cases
+  pub left-length : (l : List ℕ) → length (leftOver B l) ≡ length l % B
+  unfolding leftOver
+  left-length l = length-drop (length l / B * B) l ∙ sym (mod-eq-sub-div-mul (length l) B)
+
+  pub left-short : (l : List ℕ) → length l < B → leftOver B l ≡ l
+  unfolding leftOver
+  left-short l h = ap (λ (k : ℕ). drop (k * B) l) (div-eq-of-lt h) ∙ ap (λ (k : ℕ). drop k l) (zero-mul B)
+
+  pub left-block : (l : List ℕ) → 0 < B → length l ≡ B → leftOver B l ≡ []
+  unfolding leftOver
+  left-block l p e =
+      let q : length l / B ≡ 1 = ap (λ (k : ℕ). k / B) e ∙ div-self p in
+      drop-of-length-le l {i = length l / B * B} (rw (q, one-mul) (omega arith))
+
+  pub left-less : (l : List ℕ) → 0 < B → length (leftOver B l) < B
+  left-less l p = omega (arith, left-length l, mod-lt (length l) p)
+
+  -- as a loan of the part behind the whole blocks has it
+  pub left-part : (l : List ℕ) → take (length l - (length l - length l % B)) (drop (length l - length l % B) l) ≡ leftOver B l
+  unfolding leftOver
+  left-part l =
+      let e : length l - length l % B ≡ length l / B * B = omega (arith, div-add-mod' (length l) B) in
+      part-all l (length l) (length l - length l % B) refl ∙ ap (λ (k : ℕ). drop k l) e
+
+  -- bytes cut anywhere have the whole blocks of the first part, then those of what it leaves with the second
+  module _ (a b : List ℕ) (p : 0 < B) where
+    cut-count : length (a ++ b) / B ≡ length a / B + length (leftOver B a ++ b) / B
+    unfolding leftOver
+    cut-count =
+        let n : ℕ = length a / B in
+        let le : n * B ≤ length a = div-mul-le-self (length a) B in
+        let e : length (a ++ b) ≡ n * B + length (drop (n * B) a ++ b) =
+        omega (arith, length-append a b, length-append (drop (n * B) a) b, length-drop (n * B) a)
+        in
+        ap (λ (k : ℕ). k / B) e ∙ mul-add-div-right p n (length (drop (n * B) a ++ b))
+
+    pub whole-append : wholeBlocks B (a ++ b) ≡ wholeBlocks B a ++ wholeBlocks B (leftOver B a ++ b)
+    unfolding wholeBlocks leftOver
+    whole-append =
+        let n : ℕ = length a / B in
+        let m : ℕ = length (drop (n * B) a ++ b) / B in
+        let le : n * B ≤ length a = div-mul-le-self (length a) B in
+        ap (λ (k : ℕ). firstBlocks B k (a ++ b)) cut-count
+        ∙ first-add n m (a ++ b)
+        ∙ ap (λ (bs : List (List ℕ)). bs ++ firstBlocks B m (drop (n * B) (a ++ b))) (first-front n a b le)
+        ∙ ap (λ (r : List ℕ). firstBlocks B n a ++ firstBlocks B m r) (drop-append-le (n * B) a b le)
+
+    pub left-append : leftOver B (a ++ b) ≡ leftOver B (leftOver B a ++ b)
+    unfolding leftOver
+    left-append =
+        let n : ℕ = length a / B in
+        let m : ℕ = length (drop (n * B) a ++ b) / B in
+        let le : n * B ≤ length a = div-mul-le-self (length a) B in
+        ap (λ (k : ℕ). drop (k * B) (a ++ b)) cut-count
+        ∙ ap (λ (k : ℕ). drop k (a ++ b)) (add-mul n m B)
+        ∙ sym (drop-drop (m * B) (n * B) (a ++ b))
+        ∙ ap (λ (x : List ℕ). drop (m * B) x) (drop-append-le (n * B) a b le)
+
+  cut-front : (a p : List ℕ) (room : ℕ) → a ++ p ≡ (a ++ take room p) ++ drop room p
+  cut-front a p room = ap (λ (r : List ℕ). a ++ r) (sym (take-append-drop room p)) ∙ sym (append-assoc a (take room p) (drop room p))
+
+  pub left-filled : (a p : List ℕ) (room : ℕ) → 0 < B → length (a ++ take room p) ≡ B → leftOver B (a ++ p) ≡ leftOver B (drop room p)
+  left-filled a p room z l =
+      ap (leftOver B) (cut-front a p room)
+      ∙ left-append (a ++ take room p) (drop room p) z
+      ∙ ap (λ (r : List ℕ). leftOver B (r ++ drop room p)) (left-block (a ++ take room p) z l)
+
+  module _ (step : List ℕ → List ℕ → List ℕ) where
+    -- bytes that fill no block
+    pub words-short : (ws l : List ℕ) → length l < B → wordsAfter B step ws l ≡ ws
+    unfolding wordsAfter wholeBlocks firstBlocks
+    words-short ws l h = ap (λ (k : ℕ). foldl step ws (firstBlocks B k l)) (div-eq-of-lt h)
+
+    -- one block more
+    pub words-step : (ws l : List ℕ) → 0 < B → B ≤ length l → wordsAfter B step ws l ≡ wordsAfter B step (step ws (take B l)) (drop B l)
+    unfolding wordsAfter wholeBlocks firstBlocks
+    words-step ws l p h =
+        let e : length l / B ≡ suc ((length l - B) / B) = div-eq-sub-div p h ∙ add-one _ in
+        ap (λ (k : ℕ). foldl step ws (firstBlocks B k l)) e
+        ∙ ap (λ (k : ℕ). foldl step (step ws (take B l)) (firstBlocks B (k / B) (drop B l))) (sym (length-drop B l))
+
+    -- a and then b is a with b behind it
+    pub words-append : (ws a b : List ℕ) → 0 < B
+        → wordsAfter B step ws (a ++ b) ≡ wordsAfter B step (wordsAfter B step ws a) (leftOver B a ++ b)
+    unfolding wordsAfter
+    words-append ws a b p =
+        ap (foldl step ws) (whole-append a b p) ∙ foldl-append step ws (wholeBlocks B a) (wholeBlocks B (leftOver B a ++ b))
+
+    -- a turn of a loop over blocks: the block from `at` to at + n
+    pub turn : (ws r s : List ℕ) (at n : ℕ) → 0 < B → n ≡ B → at + n ≤ length s
+        → r ≡ step ws (take (at + n - at) (drop at s)) → wordsAfter B step r (drop (at + n) s) ≡ wordsAfter B step ws (drop at s)
+    turn ws r s at n p e h q =
+        let k : at + n - at ≡ B = omega arith in
+        let hl : B ≤ length (drop at s) = rw length-drop (omega arith) in
+        let m : at + B ≡ at + n = omega arith in
+        cc (words-step ws (drop at s) p hl, drop-drop B at s)
+
+    -- a piece whose first bytes fill the block that a begins: that block first, then the rest
+    pub words-filled : (ws a p : List ℕ) (room : ℕ) → 0 < B → length (a ++ take room p) ≡ B
+        → wordsAfter B step ws (a ++ p) ≡ wordsAfter B step (wordsAfter B step ws (a ++ take room p)) (drop room p)
+    words-filled ws a p room z l =
+        ap (wordsAfter B step ws) (cut-front a p room)
+        ∙ words-append ws (a ++ take room p) (drop room p) z
+        ∙ ap (λ (r : List ℕ). wordsAfter B step (wordsAfter B step ws (a ++ take room p)) (r ++ drop room p)) (left-block (a ++ take room p) z l)

@@ -1,0 +1,85 @@
+-- Laws of the hashes that we make, for the layers above: their sizes are those of the algorithm crate, a digest has its size,
+-- the padded blocks are counted by the length and shared by no two messages. Assumes nothing.
+use mathlib.Core.Path.{_≡_, refl, sym, ap, subst, _∙_}
+use mathlib.Core.List.{List, [], _∷_, _++_, foldl, flatten}
+use Prim.Native.Nat.{ℕ, _+_, _*_, _/_, _%_, _≤_, _<_}
+use native.Mathlib.Omega.{arith}
+use lib.Dec.{lit<, lit≤}
+use lib.ListN.{length}
+use lib.Seq.{length-take-le}
+use Rattle.algorithm.specs.declared.hashes.Hash.{Hash}
+use Rattle.algorithm.specs.declared.hashes.Hash.the-variants.{Sha256, Sha512}
+use Rattle.algorithm.specs.Hashes.{blockOf, sizeOf}
+use Rattle.hash.specs.Table.{first64, first32, upper}
+use Rattle.hash.specs.Description.{Core, describe, narrow, wide}
+use Rattle.hash.specs.Blocks.Laws.{Sized}
+use Rattle.hash.specs.Sha2.{wordSize, blockSize, fieldSize, zeros, padding, step, spell, keep, digest, digestFrom, blocks}
+use Rattle.hash.specs.Sha2.Laws.{step-length, spell-length}
+use Rattle.hash.specs.Sha2.Padding.{blocks-count, blocks-sized, blocks-joined, blocks-injective}
+use Rattle.hash.specs.Digest.{blocksOf, fromBlocks, digestOf, blockCountOf}
+
+-- the sizes of the description are those of the algorithm crate
+pub block-is : (h : Hash) → blockSize (describe h .core) ≡ blockOf h
+unfolding blockSize describe narrow wide
+block-is Sha256 = refl
+block-is Sha512 = refl
+
+pub kept-is : (h : Hash) → describe h .kept ≡ sizeOf h
+unfolding describe
+kept-is Sha256 = refl
+kept-is Sha512 = refl
+
+pub size-is : (h : Hash) → 8 * wordSize (describe h .core) ≡ sizeOf h
+unfolding wordSize describe narrow wide
+size-is Sha256 = refl
+size-is Sha512 = refl
+
+pub first-length : (h : Hash) → length (describe h .first) ≡ 8
+unfolding describe first32 first64
+first-length Sha256 = refl
+first-length Sha512 = refl
+
+positive : (h : Hash) → 0 < blockSize (describe h .core)
+unfolding blockSize describe narrow wide
+positive Sha256 = lit< tt
+positive Sha512 = lit< tt
+
+-- eight words stay eight
+pub fold-length : (C : Core) (bs : List (List ℕ)) (ws : List ℕ) → length ws ≡ 8 → length (foldl (step C) ws bs) ≡ 8
+fold-length C [] ws e = e
+fold-length C (b ∷ bs) ws e = fold-length C bs (step C ws b) (step-length C ws b)
+
+-- eight words make a digest
+pub keep-length : (h : Hash) (ws : List ℕ) → length ws ≡ 8 → length (keep (describe h) ws) ≡ sizeOf h
+unfolding keep
+keep-length h ws e =
+    let w : ℕ = wordSize (describe h .core) in
+    let l : length (spell w ws) ≡ sizeOf h = spell-length w ws ∙ ap (λ (n : ℕ). n * w) e ∙ size-is h in
+    length-take-le (describe h .kept) (spell w ws) (omega (arith, kept-is h)) ∙ kept-is h
+
+module _ (h : Hash) (m : List ℕ) where
+  -- every digest has its size
+  pub digest-length : length (digestOf h m) ≡ sizeOf h
+  unfolding digestOf digest digestFrom
+  digest-length = keep-length h _ (fold-length (describe h .core) (blocks (describe h .core) m) (describe h .first) (first-length h))
+
+  -- it comes from its padded blocks and from nothing else
+  pub digest-from-blocks : digestOf h m ≡ fromBlocks h (blocksOf h m)
+  unfolding digestOf fromBlocks blocksOf digest
+  digest-from-blocks = refl
+
+  -- the padded blocks: how many, and each of its size
+  pub count-of-blocks : length (blocksOf h m) ≡ blockCountOf h (length m)
+  unfolding blocksOf blockCountOf
+  count-of-blocks =
+      blocks-count (describe h .core) (positive h) m
+      ∙ ap (λ (B : ℕ). (length m + 1 + zeros (describe h .core) (length m) + fieldSize (describe h .core)) / B) (block-is h)
+
+  pub sized-blocks : Sized (blockOf h) (blocksOf h m)
+  unfolding blocksOf
+  sized-blocks = subst (λ (B : ℕ). Sized B (blocks (describe h .core) m)) (block-is h) (blocks-sized (describe h .core) (positive h) m)
+
+-- no two messages share their padded blocks
+pub padding-injective : (h : Hash) (m n : List ℕ) → blocksOf h m ≡ blocksOf h n → m ≡ n
+unfolding blocksOf
+padding-injective h m n e = blocks-injective (describe h .core) (positive h) m n e

@@ -1,0 +1,18 @@
+-- The digest opened, for this crate's own proofs alone. Assumes nothing.
+use mathlib.Core.Path.{_≡_, refl}
+use mathlib.Core.List.{List, _++_, foldl}
+use Prim.Native.Nat.{ℕ}
+use lib.ListN.{length}
+use Rattle.algorithm.specs.declared.hashes.Hash.{Hash}
+use Rattle.hash.specs.Description.{describe}
+use Rattle.hash.specs.Blocks.{wholeBlocks}
+use Rattle.hash.specs.Sha2.{blockSize, padding, step, blocks, keep, digest, digestFrom}
+use Rattle.hash.specs.Digest.{digestOf}
+
+pub digest-is : (h : Hash) (m : List ℕ)
+    → digestOf h m
+    ≡ keep (describe h)
+    (foldl (step (describe h .core)) (describe h .first)
+    (wholeBlocks (blockSize (describe h .core)) (m ++ padding (describe h .core) (length m))))
+unfolding digestOf digest digestFrom blocks
+digest-is h m = refl

@@ -1,0 +1,11 @@
+pub mod Word
+pub mod Table
+pub mod Rule
+pub mod Description
+pub mod Blocks
+pub mod Sha2
+pub mod Digest
+pub mod State
+pub mod Inside
+pub mod Calls
+pub mod Pieces

@@ -1,0 +1,136 @@
+-- Laws of the padding, over the core of a hash: it ends at a block with the fewest zeros, and no two messages share their
+-- padded blocks. The one condition is that a block has a byte. Assumes nothing.
+use mathlib.Core.Path.{_≡_, refl, sym, ap, subst, _∙_}
+use mathlib.Core.List.{List, [], _∷_, _++_, append-assoc, flatten}
+use Prim.Native.Nat.{ℕ, zero, suc, _+_, _-_, _*_, _/_, _%_, _≤_, _<_}
+use native.Mathlib.Nat.{add-zero, mod-lt, mod-eq-of-lt, mod-self, mul-mod-left, div-add-mod', mul-div-cancel}
+use native.Mathlib.Decide.{decLe}
+use native.Mathlib.Omega.{arith}
+use lib.Arith.{digits-mod}
+use lib.ListN.{length, take, replicate, length-append, length-replicate}
+use lib.Seq.{take-append-seam}
+use Rattle.octets.specs.Number.{bytes}
+use Rattle.octets.specs.Number.Laws.{bytes-length}
+use Rattle.hash.specs.Description.{Core}
+use Rattle.hash.specs.Blocks.{wholeBlocks}
+use Rattle.hash.specs.Blocks.Laws.{Sized, whole-length, whole-sized, whole-flat}
+use Rattle.hash.specs.Sha2.{blockSize, fieldSize, zeros, padding, blocks}
+
+-- no mark stands in zeros
+no-mark : (i : ℕ) (b : List ℕ) (j : ℕ) → replicate i 0 ≡ b ++ (0x80 ∷ replicate j 0) → ⊥
+no-mark zero [] j e = let z : _≡_ {A = ℕ} 0 1 = cc in omega arith
+no-mark zero (y ∷ b) j e = let z : _≡_ {A = ℕ} 0 1 = cc in omega arith
+no-mark (suc i) [] j e = let z : _≡_ {A = ℕ} 0 0x80 = cc in omega arith
+no-mark (suc i) (y ∷ b) j e = let t : replicate i 0 ≡ b ++ (0x80 ∷ replicate j 0) = cc in no-mark i b j t
+
+-- the last mark of a list, with zeros behind it, says where the list before it ends
+marked : (a b : List ℕ) (i j : ℕ) → a ++ (0x80 ∷ replicate i 0) ≡ b ++ (0x80 ∷ replicate j 0) → a ≡ b
+marked [] [] i j e = refl
+marked [] (y ∷ b) i j e = let t : replicate i 0 ≡ b ++ (0x80 ∷ replicate j 0) = cc in absurd (no-mark i b j t)
+marked (x ∷ a) [] i j e = let t : replicate j 0 ≡ a ++ (0x80 ∷ replicate i 0) = cc in absurd (no-mark j a i t)
+marked (x ∷ a) (y ∷ b) i j e =
+    let t : a ++ (0x80 ∷ replicate i 0) ≡ b ++ (0x80 ∷ replicate j 0) = cc in
+    let u : a ≡ b = marked a b i j t in
+    let v : x ≡ y = cc in
+    cc
+
+-- of two equal lists whose ends are of one length, the fronts are equal
+fronts : (p f q g : List ℕ) → length f ≡ length g → p ++ f ≡ q ++ g → p ≡ q
+fronts p f q g h e =
+    let l : length p ≡ length q = omega (arith, length-append p f, length-append q g, ap length e) in
+    sym (take-append-seam p f) ∙ (λ i. take (l i) (e i)) ∙ take-append-seam q g
+
+module _ (C : Core) (positive : 0 < blockSize C) where
+  -- the zeros: none where the rest ends at a block, else what is missing
+  data Zeros (n : ℕ) : Type 0 where
+    full : (n + 1 + fieldSize C) % blockSize C ≡ 0 → zeros C n ≡ 0 → Zeros n
+    short : 0 < (n + 1 + fieldSize C) % blockSize C → zeros C n ≡ blockSize C - (n + 1 + fieldSize C) % blockSize C → Zeros n
+
+  zeros-case : (n : ℕ) → Zeros n
+  unfolding zeros
+  zeros-case n =
+      let B : ℕ = blockSize C in
+      let r : ℕ = (n + 1 + fieldSize C) % B in
+      let h : r < B = mod-lt (n + 1 + fieldSize C) positive in
+      elim (decLe 1 r) [
+        | yes l ↦ short l (mod-eq-of-lt (omega arith))
+        | no l ↦
+            let z : r ≡ 0 = omega arith in
+            let f : B - r ≡ B = omega arith in
+            full z (ap (λ (k : ℕ). k % B) f ∙ mod-self B)
+      ]
+
+  -- the padded message ends at a block
+  pub ends-at-block : (n : ℕ) → (n + 1 + zeros C n + fieldSize C) % blockSize C ≡ 0
+  ends-at-block n =
+      let B : ℕ = blockSize C in
+      let x : ℕ = n + 1 + fieldSize C in
+      let d : x / B * B + x % B ≡ x = div-add-mod' x B in
+      let h : x % B < B = mod-lt x positive in
+      elim (zeros-case n) [
+        | full z e ↦
+            let s : n + 1 + zeros C n + fieldSize C ≡ x = omega arith in
+            ap (λ (k : ℕ). k % B) s ∙ z
+        | short z e ↦
+            let s : n + 1 + zeros C n + fieldSize C ≡ suc (x / B) * B = omega arith in
+            ap (λ (k : ℕ). k % B) s ∙ mul-mod-left (suc (x / B)) B
+      ]
+
+  -- and no smaller number of zeros makes it so
+  pub fewest-zeros : (n z : ℕ) → (n + 1 + z + fieldSize C) % blockSize C ≡ 0 → zeros C n ≤ z
+  fewest-zeros n z m =
+      let B : ℕ = blockSize C in
+      let x : ℕ = n + 1 + fieldSize C in
+      let d : x / B * B + x % B ≡ x = div-add-mod' x B in
+      elim (zeros-case n) [
+        | full r e ↦ omega arith
+        | short r e ↦ elim (decLe (zeros C n) z) [
+          | yes l ↦ l
+          | no l ↦
+              let s : n + 1 + z + fieldSize C ≡ x / B * B + (x % B + z) = omega arith in
+              let lt : x % B + z < B = omega arith in
+              let q : x % B + z ≡ 0 = sym (digits-mod (x / B) lt) ∙ ap (λ (k : ℕ). k % B) (sym s) ∙ m in
+              absurd (omega arith)
+        ]
+      ]
+
+  pub padding-length : (n : ℕ) → length (padding C n) ≡ 1 + zeros C n + fieldSize C
+  unfolding padding
+  padding-length n =
+      omega (arith, length-append (0x80 ∷ replicate (zeros C n) 0) (bytes (fieldSize C) (8 * n)), length-replicate {A = ℕ} (zeros C n) 0, bytes-length (fieldSize C) (8 * n))
+
+  module _ (m : List ℕ) where
+    padded-length : length (m ++ padding C (length m)) ≡ length m + 1 + zeros C (length m) + fieldSize C
+    padded-length = omega (arith, length-append m (padding C (length m)), padding-length (length m))
+
+    -- the padded blocks: how many, each of its size, and joined the padded message
+    pub blocks-count : length (blocks C m) ≡ (length m + 1 + zeros C (length m) + fieldSize C) / blockSize C
+    unfolding blocks
+    blocks-count = whole-length (blockSize C) (m ++ padding C (length m)) ∙ ap (λ (k : ℕ). k / blockSize C) padded-length
+
+    pub blocks-sized : Sized (blockSize C) (blocks C m)
+    unfolding blocks
+    blocks-sized = whole-sized (blockSize C) (m ++ padding C (length m))
+
+    pub blocks-joined : flatten (blocks C m) ≡ m ++ padding C (length m)
+    unfolding blocks
+    blocks-joined =
+        let B : ℕ = blockSize C in
+        let n : ℕ = length (m ++ padding C (length m)) in
+        let z : n % B ≡ 0 = ap (λ (k : ℕ). k % B) padded-length ∙ ends-at-block (length m) in
+        whole-flat B (m ++ padding C (length m)) (omega (arith, div-add-mod' n B))
+
+  -- padding is injective: no two messages have the same padded blocks
+  pub blocks-injective : (m n : List ℕ) → blocks C m ≡ blocks C n → m ≡ n
+  unfolding padding
+  blocks-injective m n e =
+      let z : ℕ → ℕ = zeros C in
+      let f : ℕ → List ℕ = λ k. bytes (fieldSize C) (8 * k) in
+      let front : List ℕ → List ℕ = λ l. l ++ (0x80 ∷ replicate (z (length l)) 0) in
+      let whole : (l : List ℕ) → l ++ padding C (length l) ≡ front l ++ f (length l) =
+      λ l. sym (append-assoc l (0x80 ∷ replicate (z (length l)) 0) (f (length l))) in
+      let joined : front m ++ f (length m) ≡ front n ++ f (length n) =
+      sym (whole m) ∙ sym (blocks-joined m) ∙ ap flatten e ∙ blocks-joined n ∙ whole n in
+      let same : length (f (length m)) ≡ length (f (length n)) =
+      bytes-length (fieldSize C) (8 * length m) ∙ sym (bytes-length (fieldSize C) (8 * length n)) in
+      marked m n (z (length m)) (z (length n)) (fronts (front m) (f (length m)) (front n) (f (length n)) same joined)

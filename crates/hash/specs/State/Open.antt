@@ -1,0 +1,94 @@
+-- Work in pieces opened, for this crate's own proofs alone: the definitions as the code goes. Assumes nothing.
+use mathlib.Core.Path.{_≡_, refl, sym, ap, _∙_}
+use mathlib.Core.Bool.{Bool, true, false}
+use mathlib.Core.List.{List, _++_}
+use Prim.Native.Nat.{ℕ, _+_, _-_, _≤_, _<_}
+use native.Mathlib.Omega.{arith}
+use lib.Dec.{leb, eqb}
+use lib.ListN.{length, take, drop, replicate, length-append, length-drop}
+use lib.Seq.{take-length, drop-drop, length-take-le, paste}
+use borrow.Author.Tests.{le-leb, lt-leb}
+use Rattle.octets.specs.Every.{allZero}
+use Rattle.octets.specs.Every.Laws.{every-drop, all-zeros}
+use Rattle.octets.specs.Parts.{part-all}
+use Rattle.algorithm.specs.declared.hashes.Hash.{Hash}
+use Rattle.algorithm.specs.declared.hashes.Hash.the-variants.{Sha256}
+use Rattle.algorithm.specs.Hashes.{blockOf}
+use Rattle.algorithm.specs.Refusals.{mostBytes}
+use Rattle.hash.specs.Description.{describe}
+use Rattle.hash.specs.Blocks.{leftOver}
+use Rattle.hash.specs.Blocks.Laws.{left-short, words-short, left-filled, words-filled}
+use Rattle.hash.specs.Sha2.{step, keep}
+use Rattle.hash.specs.State.{places, heldOf, waitingOf, fit, wordsOf, placed, lastWords, soundOf, freshOf, zeroState, afterOf, endOf}
+use Rattle.hash.specs.State.Laws.{block-positive, held-less, waiting-length, sound-zeros}
+use Rattle.hash.specs.Inside.{Fills, withWaiting}
+use Rattle.hash.specs.declared.state.State.{State}
+
+pub fresh-is : (h : Hash) → freshOf h ≡ record { hash = h; words = describe h .first; count = 0; waiting = replicate places 0 }
+unfolding freshOf
+fresh-is h = refl
+
+pub zero-is : zeroState ≡ record { hash = Sha256; words = replicate 8 0; count = 0; waiting = replicate places 0 }
+unfolding zeroState
+zero-is = refl
+
+pub end-is : (s : State) → endOf s ≡ keep (describe (s .hash)) (lastWords s)
+unfolding endOf
+end-is s = refl
+
+-- the test of a sound state, one part after the other
+module _ (s : State) where
+  pub unsound-count : mostBytes < s .count → soundOf s ≡ false
+  unfolding soundOf
+  unsound-count h = rw (lt-leb (s .count) mostBytes h)
+
+  pub unsound-waiting : s .count ≤ mostBytes → allZero (drop (heldOf s) (s .waiting)) ≡ false → soundOf s ≡ false
+  unfolding soundOf
+  unsound-waiting h e = rw (le-leb (s .count) mostBytes h, e)
+
+  pub sound-by-words : s .count ≤ mostBytes → allZero (drop (heldOf s) (s .waiting)) ≡ true → soundOf s ≡ fit (s .hash) (s .words)
+  unfolding soundOf
+  sound-by-words h e = rw (le-leb (s .count) mostBytes h, e)
+
+-- a piece that fills no block
+pub kept-after : (s : State) (p : List ℕ) → length (s .waiting) ≡ places → soundOf s ≡ true → heldOf s + length p < blockOf (s .hash)
+    → withWaiting s (paste (s .waiting) (heldOf s) p (length p)) (length p) ≡ afterOf s p
+unfolding afterOf
+kept-after s p l h short =
+    let a : length (waitingOf s ++ p) ≡ heldOf s + length p = omega (arith, length-append (waitingOf s) p, waiting-length s l) in
+    let lt : length (waitingOf s ++ p) < blockOf (s .hash) = omega arith in
+    let z : allZero (drop (heldOf s + length p) (s .waiting)) ≡ true =
+    rw drop-drop at (every-drop (λ x. eqb x 0) (length p) (drop (heldOf s) (s .waiting)) (sound-zeros s h))
+    in
+    let n : length (drop (heldOf s + length p) (s .waiting)) ≡ places - length (waitingOf s ++ p) =
+    omega (arith, length-drop (heldOf s + length p) (s .waiting))
+    in
+    let e : drop (heldOf s + length p) (s .waiting) ≡ replicate (places - length (waitingOf s ++ p)) 0 =
+    all-zeros (drop (heldOf s + length p) (s .waiting)) z ∙ ap (λ (k : ℕ). replicate k 0) n
+    in
+    rw (words-short (blockOf (s .hash)) (step (describe (s .hash) .core)) (s .words) (waitingOf s ++ p) lt, left-short (blockOf (s .hash)) (waitingOf s ++ p) lt, take-length p, e)
+
+-- a piece that fills a block, from what the callees of `filled` gave
+pub filled-after : (s : State) (p : List ℕ) (room size : ℕ) (topped after left : List ℕ) → length (s .waiting) ≡ places → Fills s room p
+    → size ≡ blockOf (s .hash)
+    → topped ≡ wordsOf (s .hash) (s .words) (take (size - room) (s .waiting) ++ take room p)
+    → after ≡ wordsOf (s .hash) topped (take (length p - room) (drop room p))
+    → left ≡ placed (leftOver size (take (length p - room) (drop room p)))
+    → _≡_ {A = State} (record { hash = s .hash; words = after; count = s .count + length p; waiting = left }) (afterOf s p)
+unfolding afterOf
+filled-after s p room size topped after left l h es et ea el =
+    let B = blockOf (s .hash) in
+    let at : size - room ≡ heldOf s = omega (arith, h .fills) in
+    let d : take (length p - room) (drop room p) ≡ drop room p = part-all p (length p) room refl in
+    let n : length (waitingOf s ++ take room p) ≡ B =
+    omega (arith, length-append (waitingOf s) (take room p), waiting-length s l, length-take-le room p (h .within), h .fills)
+    in
+    let u : topped ≡ wordsOf (s .hash) (s .words) (waitingOf s ++ take room p) = rw at at et in
+    let v : after ≡ wordsOf (s .hash) (s .words) (waitingOf s ++ p) =
+    ea ∙ cc (u, d, words-filled B (step (describe (s .hash) .core)) (s .words) (waitingOf s) p room (block-positive (s .hash)) n)
+    in
+    let r : leftOver size (take (length p - room) (drop room p)) ≡ leftOver B (waitingOf s ++ p) =
+    cc (d, es, left-filled B (waitingOf s) p room (block-positive (s .hash)) n)
+    in
+    let t : left ≡ placed (leftOver B (waitingOf s ++ p)) = el ∙ ap placed r in
+    rw (v, t)

@@ -1,0 +1,128 @@
+// The end: the padding, and the digest's bytes.
+ghost use mathlib.Core.Path.{_≡_};
+ghost use mathlib.Core.Bool.{true};
+ghost use mathlib.Core.List.{_++_, _∷_};
+ghost use Prim.Native.Nat.{_+_, _-_, _*_, _≤_, _<_};
+ghost use lib.ListN.{length, take, replicate};
+ghost use Rattle.octets.specs.Number.{bytes};
+ghost use Rattle.algorithm.specs.Hashes.{blockOf};
+ghost use Rattle.algorithm.specs.Refusals.{mostBytes};
+ghost use Rattle.hash.specs.Description.{describe};
+ghost use Rattle.hash.specs.Sha2.{wordSize, fieldSize, spell};
+ghost use Rattle.hash.specs.State.{places, lastWords};
+ghost use Rattle.hash.specs.Calls.{FinishOutcome};
+ghost use Rattle.hash.specs.Inside.{paddedEnd, Ends};
+use crate::state::State;
+use algorithm::Hash;
+
+// The bytes of a word.
+fn word_size(hash: Hash) -> usize
+    ensures { λ r. ⌜ r ≡ wordSize (describe hash .core) ⌝ }
+{
+    match hash {
+        Hash::Sha256 => 4,
+        Hash::Sha512 => 8,
+    }
+}
+
+// The bytes of the length field.
+fn field_size(hash: Hash) -> usize
+    ensures { λ r. ⌜ r ≡ fieldSize (describe hash .core) ⌝ }
+{
+    match hash {
+        Hash::Sha256 => 8,
+        Hash::Sha512 => 16,
+    }
+}
+
+// Eight bytes of a number, big-endian.
+fn eight_bytes(x: u64) -> [u8; 8]
+    ensures { λ r. ⌜ r ≡ bytes 8 x ⌝ }
+{
+    [
+        (x / 72057594037927936 % 256) as u8,
+        (x / 281474976710656 % 256) as u8,
+        (x / 1099511627776 % 256) as u8,
+        (x / 4294967296 % 256) as u8,
+        (x / 16777216 % 256) as u8,
+        (x / 65536 % 256) as u8,
+        (x / 256 % 256) as u8,
+        (x % 256) as u8,
+    ]
+}
+
+// Where the padded rest ends: at one block or at two.
+fn padded_end(hash: Hash, at: usize) -> usize
+    requires { ⌜ at < blockOf hash ⌝ }
+    ensures { λ r. ⌜ r ≡ paddedEnd hash at ⌝ }
+{
+    let size = algorithm::block_size(hash);
+    let field = field_size(hash);
+    if at + 1 + field <= size {
+        return size;
+    }
+    size + size
+}
+
+// The waiting bytes with the padding behind them, up to `end`. The length is below 2^64, so its last eight bytes say it all.
+fn last_blocks(waiting: [u8; 128], at: usize, end: usize, bits: u64) -> [u8; 256]
+    requires { ⌜ (at ≤ places) × (at + 9 ≤ end) × (end ≤ 256) ⌝ }
+    ensures { λ r. ⌜ take end r ≡ take at waiting ++ (128 ∷ replicate (end - (at + 9)) 0 ++ bytes 8 bits) ⌝ }
+{
+    let mut last = [0u8; 256];
+    crate::place::put_at(&mut last, 0, &waiting[..at]);
+    last[at] = 128;
+    let field = eight_bytes(bits);
+    crate::place::put_at(&mut last, end - 8, &field);
+    last
+}
+
+// The words after the padded rest.
+fn last_words(state: State) -> [u64; 8]
+    requires { ⌜ Ends state ⌝ }
+    ensures { λ r. ⌜ r ≡ lastWords state ⌝ }
+{
+    let hash = state.hash;
+    let at = crate::state::held(state);
+    let end = padded_end(hash, at);
+    let count = state.count;
+    let waiting = state.waiting;
+    let last = last_blocks(waiting, at, end, 8 * count);
+    let words = state.words;
+    crate::blocks::words_after(hash, words, &last[..end])
+}
+
+// The bytes of the words, `size` for each, into a slice that they fill.
+fn put_words(out: &mut [u8], size: usize, words: [u64; 8])
+    requires { ⌜ (size ≤ 8) × (length (now out) ≡ 8 * size) ⌝ }
+    ensures { λ _. ⌜ now (out .exit) ≡ spell size words ⌝ }
+{
+    let from = 8 - size;
+    let mut i: usize = 0;
+    while i < 8 {
+        let word = eight_bytes(words[i]);
+        let at = i * size;
+        crate::place::put_at(out, at, &word[from..]);
+        i += 1;
+    }
+}
+
+// The digest of the bytes taken so far, which does not use the state up; 10 where the state is not sound, 6 where the output is
+// not of a digest's size.
+pub fn finish(state: State, out: &mut [u8]) -> u32
+    ensures { λ r. ⌜ FinishOutcome state (now (out .entry)) r (now (out .exit)) ⌝ }
+{
+    let ok = crate::soundness::sound(state);
+    if !ok {
+        return algorithm::STATE_NOT_SOUND;
+    }
+    let hash = state.hash;
+    let size = algorithm::digest_size(hash);
+    if out.len() != size {
+        return algorithm::WRONG_SIZE;
+    }
+    let words = last_words(state);
+    let word = word_size(hash);
+    put_words(out, word, words);
+    algorithm::DONE
+}

@@ -1,0 +1,162 @@
+// The block step on words of 32 bits (FIPS 180-4, sections 4.1.2 and 6.2.2), and the words after all whole blocks of a slice.
+use crate::table::upper;
+use crate::words::word32;
+ghost use mathlib.Core.Path.{_≡_};
+ghost use Prim.Native.Nat.{_<_, _≤_};
+ghost use lib.ListN.{length, take};
+ghost use Rattle.hash.specs.Word.{add, rotr, ch, maj};
+ghost use Rattle.hash.specs.Table.{k64};
+ghost use Rattle.hash.specs.Description.{narrow};
+ghost use Rattle.hash.specs.Blocks.{wordsAfter};
+ghost use Rattle.hash.specs.Sha2 as sha;
+
+fn add(x: u32, y: u32) -> u32
+    ensures { λ r. ⌜ r ≡ add 32 x y ⌝ }
+{
+    std::num::wrapping_add_u32(x, y)
+}
+
+fn rotr(x: u32, n: u32) -> u32
+    requires { ⌜ (0 < n) × (n < 32) ⌝ }
+    ensures { λ r. ⌜ r ≡ rotr 32 n x ⌝ }
+{
+    (x >> n) | (x << (32 - n))
+}
+
+fn ch(x: u32, y: u32, z: u32) -> u32
+    ensures { λ r. ⌜ r ≡ ch 32 x y z ⌝ }
+{
+    (x & y) ^ (!x & z)
+}
+
+fn maj(x: u32, y: u32, z: u32) -> u32
+    ensures { λ r. ⌜ r ≡ maj x y z ⌝ }
+{
+    (x & y) ^ (x & z) ^ (y & z)
+}
+
+fn big0(x: u32) -> u32
+    ensures { λ r. ⌜ r ≡ sha.big0 narrow x ⌝ }
+{
+    rotr(x, 2) ^ rotr(x, 13) ^ rotr(x, 22)
+}
+
+fn big1(x: u32) -> u32
+    ensures { λ r. ⌜ r ≡ sha.big1 narrow x ⌝ }
+{
+    rotr(x, 6) ^ rotr(x, 11) ^ rotr(x, 25)
+}
+
+fn small0(x: u32) -> u32
+    ensures { λ r. ⌜ r ≡ sha.small0 narrow x ⌝ }
+{
+    rotr(x, 7) ^ rotr(x, 18) ^ (x >> 3)
+}
+
+fn small1(x: u32) -> u32
+    ensures { λ r. ⌜ r ≡ sha.small1 narrow x ⌝ }
+{
+    rotr(x, 17) ^ rotr(x, 19) ^ (x >> 10)
+}
+
+fn t1(e: u32, f: u32, g: u32, h: u32, k: u32, w: u32) -> u32
+    ensures { λ r. ⌜ r ≡ sha.t1 narrow e f g h k w ⌝ }
+{
+    add(add(add(add(h, big1(e)), ch(e, f, g)), k), w)
+}
+
+fn t2(a: u32, b: u32, c: u32) -> u32
+    ensures { λ r. ⌜ r ≡ sha.t2 narrow a b c ⌝ }
+{
+    add(big0(a), maj(a, b, c))
+}
+
+fn round(s: [u32; 8], k: u32, w: u32) -> [u32; 8]
+    ensures { λ r. ⌜ r ≡ sha.round narrow s k w ⌝ }
+{
+    let x = t1(s[4], s[5], s[6], s[7], k, w);
+    let y = t2(s[0], s[1], s[2]);
+    [add(x, y), s[0], s[1], s[2], add(s[3], x), s[4], s[5], s[6]]
+}
+
+fn mix(w2: u32, w7: u32, w15: u32, w16: u32) -> u32
+    ensures { λ r. ⌜ r ≡ sha.mix narrow w2 w7 w15 w16 ⌝ }
+{
+    add(add(add(small1(w2), w7), small0(w15)), w16)
+}
+
+// The block's sixteen words, with zeros behind them.
+fn load(b: &[u8]) -> [u32; 64]
+    requires { ⌜ 64 ≤ length (now b) ⌝ }
+    ensures { λ r. ⌜ take 16 r ≡ sha.words narrow (now (b .entry)) 16 ⌝ }
+{
+    let mut w = [0u32; 64];
+    for t in 0..16 {
+        w[t] = word32(b, 4 * t);
+    }
+    w
+}
+
+fn schedule(b: &[u8]) -> [u32; 64]
+    requires { ⌜ 64 ≤ length (now b) ⌝ }
+    ensures { λ r. ⌜ r ≡ sha.schedule narrow (now (b .entry)) 48 ⌝ }
+{
+    let mut w = load(b);
+    for t in 16..64 {
+        w[t] = mix(w[t - 2], w[t - 7], w[t - 15], w[t - 16]);
+    }
+    w
+}
+
+fn rounds(w: [u32; 64], s: [u32; 8], k: &[u64; 80]) -> [u32; 8]
+    requires { ⌜ now k ≡ k64 ⌝ }
+    ensures { λ r. ⌜ r ≡ sha.rounds narrow w s 64 ⌝ }
+{
+    let mut v = s;
+    for t in 0..64 {
+        let n = round(v, upper(k[t]), w[t]);
+        v = n;
+    }
+    v
+}
+
+fn sums(s: [u32; 8], v: [u32; 8]) -> [u32; 8]
+    ensures { λ r. ⌜ r ≡ sha.sums narrow s v ⌝ }
+{
+    [
+        add(s[0], v[0]),
+        add(s[1], v[1]),
+        add(s[2], v[2]),
+        add(s[3], v[3]),
+        add(s[4], v[4]),
+        add(s[5], v[5]),
+        add(s[6], v[6]),
+        add(s[7], v[7]),
+    ]
+}
+
+// The chaining words after the block that starts the bytes.
+fn step(s: [u32; 8], b: &[u8], k: &[u64; 80]) -> [u32; 8]
+    requires { ⌜ (64 ≤ length (now b)) × (now k ≡ k64) ⌝ }
+    ensures { λ r. ⌜ r ≡ sha.step narrow s (now (b .entry)) ⌝ }
+{
+    let w = schedule(b);
+    let v = rounds(w, s, k);
+    sums(s, v)
+}
+
+// The chaining words after every whole block of the bytes, each read where it stands; `k` is the table, lent by the caller.
+pub(crate) fn after_blocks(words: [u32; 8], bytes: &[u8], k: &[u64; 80]) -> [u32; 8]
+    requires { ⌜ now k ≡ k64 ⌝ }
+    ensures { λ r. ⌜ r ≡ wordsAfter 64 (sha.step narrow) words (now (bytes .entry)) ⌝ }
+{
+    let mut v = words;
+    let mut at: usize = 0;
+    while 64 <= bytes.len() - at {
+        let end = at + 64;
+        let n = step(v, &bytes[at..end], k);
+        v = n;
+        at = end;
+    }
+    v
+}

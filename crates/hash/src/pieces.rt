@@ -1,0 +1,115 @@
+// One piece more. Whole blocks are read straight from the piece, and only what fills no block is copied.
+ghost use mathlib.Core.Path.{_≡_};
+ghost use mathlib.Core.Bool.{true};
+ghost use mathlib.Core.List.{_++_};
+ghost use Prim.Native.Nat.{_+_, _≤_, _<_};
+ghost use lib.ListN.{length, take};
+ghost use lib.Seq.{paste};
+ghost use Rattle.algorithm.specs.Refusals.{mostBytes};
+ghost use Rattle.hash.specs.Blocks.{leftOver};
+ghost use Rattle.hash.specs.State.{places, fit, wordsOf, placed, afterOf};
+ghost use Rattle.hash.specs.Calls.{UpdateOutcome};
+ghost use Rattle.hash.specs.Inside.{withWaiting, Takes, Fills};
+use crate::state::Fed;
+use crate::state::State;
+use algorithm::Hash;
+
+// The state after a piece that fills no block.
+fn kept(state: State, at: usize, piece: &[u8]) -> State
+    requires { ⌜ at + length (now piece) ≤ places ⌝ }
+    requires { ⌜ state .count + length (now piece) ≤ mostBytes ⌝ }
+    ensures { λ r. ⌜ r ≡ withWaiting state (paste (state .waiting) at (now (piece .entry)) (length (now (piece .entry)))) (length (now (piece .entry))) ⌝ }
+{
+    let mut waiting = state.waiting;
+    crate::place::put_at(&mut waiting, at, piece);
+    let mut next = state;
+    next.waiting = waiting;
+    next.count = state.count + piece.len() as u64;
+    next
+}
+
+// What is left behind the last whole block, with zeros behind it.
+fn left_over(size: usize, bytes: &[u8]) -> [u8; 128]
+    requires { ⌜ (0 < size) × (size ≤ places) ⌝ }
+    ensures { λ r. ⌜ r ≡ placed (leftOver size (now (bytes .entry))) ⌝ }
+{
+    let from = bytes.len() - bytes.len() % size;
+    let mut waiting = [0u8; 128];
+    crate::place::put_at(&mut waiting, 0, &bytes[from..]);
+    waiting
+}
+
+// The words after the block that the waiting bytes and the first bytes of a piece make.
+fn topped_up(hash: Hash, words: [u64; 8], waiting: [u8; 128], at: usize, bytes: &[u8]) -> [u64; 8]
+    requires { ⌜ at + length (now bytes) ≤ places ⌝ }
+    requires { ⌜ fit hash words ≡ true ⌝ }
+    ensures { λ r. ⌜ r ≡ wordsOf hash words (take at waiting ++ now (bytes .entry)) ⌝ }
+{
+    let mut block = waiting;
+    crate::place::put_at(&mut block, at, bytes);
+    let end = at + bytes.len();
+    crate::blocks::words_after(hash, words, &block[..end])
+}
+
+// The state after a piece that fills a block, of which it takes the first `room` bytes.
+fn filled(state: State, room: usize, piece: &[u8]) -> State
+    requires { ⌜ Fills state room (now piece) ⌝ }
+    ensures { λ r. ⌜ r ≡ afterOf state (now (piece .entry)) ⌝ }
+{
+    let hash = state.hash;
+    let size = algorithm::block_size(hash);
+    let at = size - room;
+    let words = state.words;
+    let waiting = state.waiting;
+    let topped = topped_up(hash, words, waiting, at, &piece[..room]);
+    let rest = &piece[room..];
+    let after = crate::blocks::words_after(hash, topped, rest);
+    let left = left_over(size, rest);
+    State {
+        hash,
+        words: after,
+        count: state.count + piece.len() as u64,
+        waiting: left,
+    }
+}
+
+// The state after a piece that is taken.
+fn taken(state: State, piece: &[u8]) -> State
+    requires { ⌜ Takes state (now piece) ⌝ }
+    ensures { λ r. ⌜ r ≡ afterOf state (now (piece .entry)) ⌝ }
+{
+    let hash = state.hash;
+    let size = algorithm::block_size(hash);
+    let at = crate::state::held(state);
+    let room = size - at;
+    if piece.len() < room {
+        return kept(state, at, piece);
+    }
+    filled(state, room, piece)
+}
+
+// The state after one piece more; 10 where the state is not sound, 4 where the bytes would be too many. A refusal hands the given
+// state back.
+pub fn update(state: State, piece: &[u8]) -> Fed
+    ensures { λ r. ⌜ UpdateOutcome state (now (piece .entry)) r ⌝ }
+{
+    let ok = crate::soundness::sound(state);
+    if !ok {
+        return Fed {
+            number: algorithm::STATE_NOT_SOUND,
+            state,
+        };
+    }
+    let count = state.count;
+    if algorithm::MOST_BYTES - count < piece.len() as u64 {
+        return Fed {
+            number: algorithm::MESSAGE_TOO_LONG,
+            state,
+        };
+    }
+    let next = taken(state, piece);
+    Fed {
+        number: algorithm::DONE,
+        state: next,
+    }
+}

@@ -1,0 +1,55 @@
+// The start of work in pieces.
+ghost use mathlib.Core.Path.{_≡_};
+ghost use Rattle.hash.specs.State.{freshOf, zeroState};
+ghost use Rattle.hash.specs.Calls.{StartOutcome};
+use crate::state::Started;
+use crate::state::State;
+use algorithm::Hash;
+use algorithm::Named;
+
+// The state that has taken no byte.
+fn fresh(hash: Hash) -> State
+    ensures { λ r. ⌜ r ≡ freshOf hash ⌝ }
+{
+    let words = crate::table::first_words(hash);
+    let waiting = [0u8; 128];
+    State {
+        hash,
+        words,
+        count: 0,
+        waiting,
+    }
+}
+
+// What a refused start hands back: zeros that name hash 1.
+fn zeros() -> State
+    ensures { λ r. ⌜ r ≡ zeroState ⌝ }
+{
+    let words = [0u64; 8];
+    let waiting = [0u8; 128];
+    State {
+        hash: Hash::Sha256,
+        words,
+        count: 0,
+        waiting,
+    }
+}
+
+// A start for the hash of this number; 2 where there is none.
+pub fn start(number: u32) -> Started
+    ensures { λ r. ⌜ StartOutcome number r ⌝ }
+{
+    let named = algorithm::which(number);
+    let Named::Is(hash) = named else {
+        let state = zeros();
+        return Started {
+            number: algorithm::UNKNOWN_HASH,
+            state,
+        };
+    };
+    let state = fresh(hash);
+    Started {
+        number: algorithm::DONE,
+        state,
+    }
+}

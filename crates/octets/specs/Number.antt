@@ -1,0 +1,18 @@
+-- Numbers as bytes, big-endian. Assumes nothing.
+pub mod Laws
+use mathlib.Core.List.{List, [], _∷_, _++_}
+use Prim.Native.Nat.{ℕ, zero, suc, _+_, _*_, _/_, _%_}
+
+-- the number whose bytes are those of n and then the list
+unfoldable pub onto : ℕ → List ℕ → ℕ
+onto n [] = n
+onto n (x ∷ xs) = onto (n * 256 + x) xs
+
+-- the number that the list's bytes make
+unfoldable pub number : List ℕ → ℕ
+number xs = onto 0 xs
+
+-- the k lowest bytes of n
+unfoldable pub bytes : ℕ → ℕ → List ℕ
+bytes zero n = []
+bytes (suc k) n = bytes k (n / 256) ++ (n % 256 ∷ [])

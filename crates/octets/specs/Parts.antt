@@ -1,0 +1,52 @@
+-- Laws of parts of a list: read from a place, or lent from a place onward, written over and given back. Assumes nothing.
+use mathlib.Core.Path.{_≡_, refl, sym, ap, _∙_}
+use mathlib.Core.List.{List, [], _∷_, _++_, append-assoc, append-nil}
+use Prim.Native.Nat.{ℕ, zero, suc, _+_, _-_, _≤_}
+use native.Mathlib.Nat.{zero-add, le-refl}
+use native.Mathlib.Omega.{arith}
+use lib.ListN.{length, take, drop, replicate, length-drop, length-replicate, drop-of-length-le, replicate-append-replicate}
+use lib.Seq.{take-all, take-length, take-at, drop-drop, paste, take-paste}
+use borrow.Rule.Slice.PartMut.{putMid}
+use Rattle.octets.specs.Copy.{over}
+use Rattle.octets.specs.Copy.Laws.{over-short}
+use Rattle.octets.specs.Every.{every, allZero}
+use Rattle.octets.specs.Every.Laws.{every-drop, zeros-all, all-zeros}
+
+-- a part from a place to the end, as a loan has it
+pub part-all : (l : List ℕ) (n at : ℕ) → length l ≡ n → take (n - at) (drop at l) ≡ drop at l
+part-all l n at e = take-all (n - at) (drop at l) (rw length-drop (omega arith))
+
+-- the part from `at` onward, lent to a copy of q and given back
+pub part-put : (l q y : List ℕ) (at n : ℕ) → n ≡ length l - at → at + length q ≤ length l → y ≡ over q (take n (drop at l))
+    → putMid at n l y ≡ paste l at q (length q)
+part-put l q y at n en room ey =
+    let p : take n (drop at l) ≡ drop at l = take-all n (drop at l) (rw length-drop (omega arith)) in
+    let fits : length q ≤ length (drop at l) = rw length-drop (omega arith) in
+    let e : y ≡ q ++ drop (at + length q) l =
+    ey ∙ ap (over q) p ∙ over-short q (drop at l) fits ∙ ap (λ (r : List ℕ). q ++ r) (drop-drop (length q) at l)
+    in
+    let none : drop n (drop at l) ≡ [] = drop-of-length-le (drop at l) {i = n} (rw length-drop (omega arith)) in
+    rw (none, e, append-nil, take-length q) (sym (append-assoc (take at l) q (drop (at + length q) l)))
+
+-- what stands up to the end of what was written
+pub take-pasted : (l : List ℕ) (at : ℕ) (q : List ℕ) → at + length q ≤ length l
+    → take (at + length q) (paste l at q (length q)) ≡ take at l ++ q
+take-pasted l at q h = take-paste l at q (length q) (omega arith) (le-refl (length q)) ∙ ap (λ (r : List ℕ). take at l ++ r) (take-length q)
+
+-- zeros, with a list written over their beginning
+pub paste-zeros : (n : ℕ) (q : List ℕ) → paste (replicate n 0) 0 q (length q) ≡ q ++ replicate (n - length q) 0
+paste-zeros n q =
+    let o : List ℕ = replicate n 0 in
+    let z : drop (length q) o ≡ replicate (n - length q) 0 =
+    all-zeros (drop (length q) o) (every-drop _ (length q) o (zeros-all n))
+    ∙ ap (λ (k : ℕ). replicate k 0) (length-drop (length q) o ∙ ap (λ (k : ℕ). k - length q) (length-replicate n 0))
+    in
+    rw (zero-add, take-length q, z)
+
+-- the beginning of one element repeated
+pub take-replicate : (k n a : ℕ) → k ≤ n → take k (replicate n a) ≡ replicate k a
+take-replicate k n a h =
+    let e : n ≡ k + (n - k) = omega arith in
+    ap (λ (m : ℕ). take k (replicate m a)) e
+    ∙ ap (take k) (sym (replicate-append-replicate k (n - k) a))
+    ∙ take-at (replicate k a) (replicate (n - k) a) k (length-replicate k a)
