@@ -1,4 +1,4 @@
--- The hashes that we make: their numbers and their sizes (document 01, "The two hashes"). Assumes nothing.
+-- The hashes that we make: their numbers and their sizes (docs/PROTOCOL.md, "The hashes"). Assumes nothing.
 pub mod Laws
 use mathlib.Core.Bool.{Bool, cond, _||_}
 use Prim.Native.Nat.{ℕ}

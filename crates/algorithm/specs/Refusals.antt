@@ -1,4 +1,4 @@
--- The numbers that come back, by name (document 01, "Numbers that come back"). Assumes nothing.
+-- The numbers that come back, by name (docs/PROTOCOL.md, "The numbers that come back"). Assumes nothing.
 use Prim.Native.Nat.{ℕ}
 
 -- done, or the tag matches

@@ -1,4 +1,4 @@
-// The numbers that come back (document 01's table), by name; specs/Refusals.antt has the same ones for the contracts.
+// The numbers that come back (docs/PROTOCOL.md's table), by name; specs/Refusals.antt has the same ones for the contracts.
 
 // Done, or the tag matches.
 pub const DONE: u32 = 0;

@@ -3,12 +3,11 @@
 use mathlib.Core.Path.{_≡_, refl, sym, ap, _∙_}
 use mathlib.Core.List.{List, [], _∷_, _++_, append-assoc, append-nil}
 use Prim.Native.Nat.{ℕ, suc, _+_, _-_, _*_, _/_, _%_, _^_, _≤_, _<_}
-use native.Mathlib.Nat.{zero-mul, div-eq-of-lt}
+use native.Mathlib.Nat.{zero-mul, div-eq-of-lt, le-refl}
 use native.Mathlib.Numerals.{add-one}
 use native.Mathlib.Omega.{arith}
 use lib.ListN.{length, getD, take, drop, set, replicate, length-append, length-replicate, replicate-append-replicate}
 use lib.Seq.{take-all, take-suc, take-append-add, set-at, paste, length-paste}
-use native.Mathlib.Nat.{le-refl}
 use Rattle.octets.specs.Number.{bytes}
 use Rattle.octets.specs.Number.Laws.{bytes-length, bytes-add, bytes-zero, bytes-last}
 use Rattle.octets.specs.Parts.{part-all, take-pasted, paste-zeros, take-replicate}
@@ -17,7 +16,7 @@ use Rattle.algorithm.specs.declared.hashes.Hash.the-variants.{Sha256, Sha512}
 use Rattle.algorithm.specs.Hashes.{blockOf, sizeOf}
 use Rattle.algorithm.specs.Refusals.{mostBytes}
 use Rattle.hash.specs.Description.{describe, narrow, wide}
-use Rattle.hash.specs.Sha2.{wordSize, blockSize, fieldSize, zeros, padding, spell, keep}
+use Rattle.hash.specs.Sha2.{wordSize, blockSize, fieldSize, zeros, lengthField, padding, spell, keep}
 use Rattle.hash.specs.Sha2.Laws.{spell-length}
 use Rattle.hash.specs.Digest.Laws.{kept-is, size-is}
 use Rattle.hash.specs.State.{heldOf, waitingOf, wordsOf, lastWords}
@@ -55,7 +54,7 @@ end-range Sha512 at p = (omega arith, omega arith)
 -- the padding, with the length's last eight bytes written and zeros for those before them
 padding-is : (h : Hash) (n : ℕ) → n ≤ mostBytes
     → 128 ∷ replicate (paddedEnd h (n % blockOf h) - (n % blockOf h + 9)) 0 ++ bytes 8 (8 * n) ≡ padding (describe h .core) n
-unfolding padding fieldSize zeros blockSize describe narrow wide
+unfolding padding lengthField fieldSize zeros blockSize describe narrow wide
 padding-is Sha256 n l =
     let e : paddedEnd Sha256 (n % 64) - (n % 64 + 9) ≡ (64 - (n + 1 + 8) % 64) % 64 = omega arith in
     ap (λ (k : ℕ). 128 ∷ replicate k 0 ++ bytes 8 (8 * n)) e

@@ -1,4 +1,4 @@
--- The rule of the tables: the bits behind the point of the roots of the primes (document 01). Assumes nothing.
+-- The rule of the tables: the bits behind the point of the roots of the primes (docs/PROTOCOL.md, "The hashes"). Assumes nothing.
 use mathlib.Core.Path.{_≡_}
 use mathlib.Core.Bool.{Bool, true, not, cond, _&&_}
 use mathlib.Core.List.{List, [], _∷_, _++_}

@@ -41,9 +41,13 @@ module _ (C : Core) where
   unfoldable pub zeros : ℕ → ℕ
   zeros n = (blockSize - (n + 1 + fieldSize) % blockSize) % blockSize
 
+  -- the length of a message of n bytes, in bits
+  unfoldable pub lengthField : ℕ → List ℕ
+  lengthField n = bytes fieldSize (8 * n)
+
   -- what follows a message of n bytes
   unfoldable pub padding : ℕ → List ℕ
-  padding n = 0x80 ∷ replicate (zeros n) 0 ++ bytes fieldSize (8 * n)
+  padding n = 0x80 ∷ replicate (zeros n) 0 ++ lengthField n
 
   -- 5.2: the padded message as a list of blocks
   unfoldable pub blocks : List ℕ → List (List ℕ)

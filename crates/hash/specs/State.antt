@@ -1,5 +1,5 @@
--- Work in pieces: a state, when it is sound, and what bytes and the end make of it (document 01, "Work in pieces"). The four
--- definitions that the calls promise are shut; their laws for the layers above are in State/Laws.antt. Assumes nothing.
+-- Work in pieces: a state, when it is sound, and what bytes and the end make of it (docs/PROTOCOL.md, "Work in pieces").
+-- What the calls promise is shut; its laws for the layers above are in State/Laws.antt. Assumes nothing.
 pub mod Open
 pub mod Laws
 use mathlib.Core.Path.{_≡_}

@@ -1,12 +1,10 @@
 // The end: the padding, and the digest's bytes.
 ghost use mathlib.Core.Path.{_≡_};
-ghost use mathlib.Core.Bool.{true};
 ghost use mathlib.Core.List.{_++_, _∷_};
 ghost use Prim.Native.Nat.{_+_, _-_, _*_, _≤_, _<_};
 ghost use lib.ListN.{length, take, replicate};
 ghost use Rattle.octets.specs.Number.{bytes};
 ghost use Rattle.algorithm.specs.Hashes.{blockOf};
-ghost use Rattle.algorithm.specs.Refusals.{mostBytes};
 ghost use Rattle.hash.specs.Description.{describe};
 ghost use Rattle.hash.specs.Sha2.{wordSize, fieldSize, spell};
 ghost use Rattle.hash.specs.State.{places, lastWords};

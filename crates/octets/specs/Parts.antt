@@ -1,7 +1,7 @@
 -- Laws of parts of a list: read from a place, or lent from a place onward, written over and given back. Assumes nothing.
-use mathlib.Core.Path.{_≡_, refl, sym, ap, _∙_}
-use mathlib.Core.List.{List, [], _∷_, _++_, append-assoc, append-nil}
-use Prim.Native.Nat.{ℕ, zero, suc, _+_, _-_, _≤_}
+use mathlib.Core.Path.{_≡_, sym, ap, _∙_}
+use mathlib.Core.List.{List, [], _++_, append-assoc, append-nil}
+use Prim.Native.Nat.{ℕ, _+_, _-_, _≤_}
 use native.Mathlib.Nat.{zero-add, le-refl}
 use native.Mathlib.Omega.{arith}
 use lib.ListN.{length, take, drop, replicate, length-drop, length-replicate, drop-of-length-le, replicate-append-replicate}
@@ -9,7 +9,6 @@ use lib.Seq.{take-all, take-length, take-at, drop-drop, paste, take-paste}
 use borrow.Rule.Slice.PartMut.{putMid}
 use Rattle.octets.specs.Copy.{over}
 use Rattle.octets.specs.Copy.Laws.{over-short}
-use Rattle.octets.specs.Every.{every, allZero}
 use Rattle.octets.specs.Every.Laws.{every-drop, zeros-all, all-zeros}
 
 -- a part from a place to the end, as a loan has it

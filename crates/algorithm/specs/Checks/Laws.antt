@@ -1,17 +1,16 @@
 -- Laws of checks in their order: a number comes back exactly when its check fails and every earlier one passes; a call is done
 -- exactly when all pass; and no second outcome meets an equation that a first one meets. Assumes nothing.
-use mathlib.Core.Path.{_≡_, refl, sym, ap, subst, _∙_}
+use mathlib.Core.Path.{_≡_, refl, sym, subst, _∙_}
 use mathlib.Core.Logic.{_↔_}
-use mathlib.Core.Bool.{Bool, true, false, cond}
+use mathlib.Core.Bool.{Bool, true, false}
 use mathlib.Core.List.{List, [], _∷_}
 use Prim.Native.Nat.{ℕ}
-use lib.Dec.{eqb}
 use borrow.Author.Tests.{eq-eqb, ne-eqb}
 use Rattle.algorithm.specs.Refusals.{done}
-use Rattle.algorithm.specs.Checks.{Check, firstFailing, decided, answered, Pass, Fail, Refusing}
+use Rattle.algorithm.specs.Checks.{Check, firstFailing, decided, Pass, Fail, Refusing}
 use Rattle.algorithm.specs.Checks.Pass.{all, and}
 use Rattle.algorithm.specs.Checks.Fail.{here, later}
-use Rattle.algorithm.specs.Checks.Refusing.{none, more}
+use Rattle.algorithm.specs.Checks.Refusing.{more}
 
 -- a test came out one way or the other
 data Test (b : Bool) : Type 0 where

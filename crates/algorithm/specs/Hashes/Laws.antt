@@ -1,5 +1,5 @@
 -- Laws of the hashes that we make, for the layers above. Assumes nothing.
-use mathlib.Core.Path.{_≡_, refl, sym, ap, _∙_}
+use mathlib.Core.Path.{_≡_, refl}
 use mathlib.Core.Bool.{Bool, true, false, cond}
 use Prim.Native.Nat.{ℕ, _*_, _≤_}
 use native.Mathlib.Omega.{arith}
@@ -7,7 +7,6 @@ use lib.Dec.{lit≤}
 use Rattle.algorithm.specs.Hashes.{numberOf, blockOf, sizeOf, shortestOf, names, hashOf, whichOf}
 use Rattle.algorithm.specs.declared.hashes.Hash.{Hash}
 use Rattle.algorithm.specs.declared.hashes.Hash.the-variants.{Sha256, Sha512}
-use Rattle.algorithm.specs.declared.hashes.Named.{Named}
 use Rattle.algorithm.specs.declared.hashes.Named.the-variants.{Is, Unknown}
 
 -- the number of a hash names it

@@ -1,6 +1,6 @@
 -- Laws of bytes cut into blocks, over the size of a block and the step. Assumes nothing.
 use mathlib.Core.Path.{_≡_, refl, sym, ap, _∙_}
-use mathlib.Core.List.{List, [], _∷_, _++_, append-assoc, append-nil, foldl, foldl-append, flatten}
+use mathlib.Core.List.{List, [], _∷_, _++_, append-assoc, foldl, foldl-append, flatten}
 use Prim.Native.Nat.{ℕ, zero, suc, _+_, _-_, _*_, _/_, _%_, _≤_, _<_}
 use native.Mathlib.Nat.{zero-add, zero-mul, suc-add, one-mul, add-mul, div-self, div-eq-of-lt, div-eq-sub-div, div-mul-le-self, mod-eq-sub-div-mul, mul-add-div-right, mod-lt, div-add-mod'}
 use native.Mathlib.Numerals.{add-one}

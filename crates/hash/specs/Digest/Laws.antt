@@ -1,21 +1,21 @@
 -- Laws of the hashes that we make, for the layers above: their sizes are those of the algorithm crate, a digest has its size,
 -- the padded blocks are counted by the length and shared by no two messages. Assumes nothing.
-use mathlib.Core.Path.{_≡_, refl, sym, ap, subst, _∙_}
-use mathlib.Core.List.{List, [], _∷_, _++_, foldl, flatten}
-use Prim.Native.Nat.{ℕ, _+_, _*_, _/_, _%_, _≤_, _<_}
+use mathlib.Core.Path.{_≡_, refl, ap, subst, _∙_}
+use mathlib.Core.List.{List, [], _∷_, foldl}
+use Prim.Native.Nat.{ℕ, _+_, _*_, _/_, _<_}
 use native.Mathlib.Omega.{arith}
-use lib.Dec.{lit<, lit≤}
+use lib.Dec.{lit<}
 use lib.ListN.{length}
 use lib.Seq.{length-take-le}
 use Rattle.algorithm.specs.declared.hashes.Hash.{Hash}
 use Rattle.algorithm.specs.declared.hashes.Hash.the-variants.{Sha256, Sha512}
 use Rattle.algorithm.specs.Hashes.{blockOf, sizeOf}
-use Rattle.hash.specs.Table.{first64, first32, upper}
+use Rattle.hash.specs.Table.{first64, first32}
 use Rattle.hash.specs.Description.{Core, describe, narrow, wide}
 use Rattle.hash.specs.Blocks.Laws.{Sized}
-use Rattle.hash.specs.Sha2.{wordSize, blockSize, fieldSize, zeros, padding, step, spell, keep, digest, digestFrom, blocks}
+use Rattle.hash.specs.Sha2.{wordSize, blockSize, fieldSize, zeros, step, spell, keep, digest, digestFrom, blocks}
 use Rattle.hash.specs.Sha2.Laws.{step-length, spell-length}
-use Rattle.hash.specs.Sha2.Padding.{blocks-count, blocks-sized, blocks-joined, blocks-injective}
+use Rattle.hash.specs.Sha2.Padding.{blocks-count, blocks-sized, blocks-injective}
 use Rattle.hash.specs.Digest.{blocksOf, fromBlocks, digestOf, blockCountOf}
 
 -- the sizes of the description are those of the algorithm crate

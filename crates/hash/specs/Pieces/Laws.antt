@@ -1,9 +1,9 @@
 -- Laws of a run of pieces: refused ones change nothing, and from a start it ends as the one-piece digest of the bytes taken.
 -- Assumes nothing.
-use mathlib.Core.Path.{_≡_, refl, sym, ap, subst, _∙_}
+use mathlib.Core.Path.{_≡_, refl, sym, ap, _∙_}
 use mathlib.Core.Bool.{Bool, true, false, cond}
 use mathlib.Core.List.{List, [], _∷_, _++_, append-nil}
-use Prim.Native.Nat.{ℕ, _+_, _≤_, _<_}
+use Prim.Native.Nat.{ℕ, _+_, _≤_}
 use native.Mathlib.Nat.{zero-add}
 use native.Mathlib.Omega.{arith}
 use native.Mathlib.Decide.{ℕ-discrete, decLe}
@@ -13,11 +13,10 @@ use borrow.Author.Tests.{ne-eqb}
 use Rattle.algorithm.specs.declared.hashes.Hash.{Hash}
 use Rattle.algorithm.specs.Hashes.{names, hashOf, sizeOf}
 use Rattle.algorithm.specs.Refusals.{done, unknownHash, mostBytes}
-use Rattle.hash.specs.Digest.{digestOf}
 use Rattle.hash.specs.State.{soundOf, Held, freshOf, afterOf, endOf}
-use Rattle.hash.specs.State.Laws.{after-nothing, after-append, after-held, after-hash, after-count, fresh-held, fresh-hash, fresh-count, sound-count, end-fresh}
+use Rattle.hash.specs.State.Laws.{after-nothing, after-append, after-held, after-hash, after-count, fresh-hash, fresh-count, sound-count, end-fresh}
 use Rattle.hash.specs.Calls.{startOf, updateOf, finishOf, digestAnswer}
-use Rattle.hash.specs.Calls.Laws.{Fate, fate, written, start-accepted, start-refused, start-held, update-accepted, update-too-long, update-held, finish-accepted, finish-wrong-size, digest-unknown, digest-too-long, digest-accepted, digest-wrong-size}
+use Rattle.hash.specs.Calls.Laws.{fate, written, start-accepted, start-refused, start-held, update-accepted, update-too-long, update-held, finish-accepted, finish-wrong-size, digest-unknown, digest-too-long, digest-accepted, digest-wrong-size}
 use Rattle.hash.specs.Calls.Laws.Fate.{taken, refused}
 use Rattle.hash.specs.Pieces.{afterAll, takenOf}
 use Rattle.hash.specs.declared.state.State.{State}

@@ -1,20 +1,18 @@
 -- Laws of the padding, over the core of a hash: it ends at a block with the fewest zeros, and no two messages share their
 -- padded blocks. The one condition is that a block has a byte. Assumes nothing.
-use mathlib.Core.Path.{_≡_, refl, sym, ap, subst, _∙_}
+use mathlib.Core.Path.{_≡_, refl, sym, ap, _∙_}
 use mathlib.Core.List.{List, [], _∷_, _++_, append-assoc, flatten}
 use Prim.Native.Nat.{ℕ, zero, suc, _+_, _-_, _*_, _/_, _%_, _≤_, _<_}
-use native.Mathlib.Nat.{add-zero, mod-lt, mod-eq-of-lt, mod-self, mul-mod-left, div-add-mod', mul-div-cancel}
+use native.Mathlib.Nat.{mod-lt, mod-eq-of-lt, mod-self, mul-mod-left, div-add-mod'}
 use native.Mathlib.Decide.{decLe}
 use native.Mathlib.Omega.{arith}
 use lib.Arith.{digits-mod}
 use lib.ListN.{length, take, replicate, length-append, length-replicate}
 use lib.Seq.{take-append-seam}
-use Rattle.octets.specs.Number.{bytes}
 use Rattle.octets.specs.Number.Laws.{bytes-length}
 use Rattle.hash.specs.Description.{Core}
-use Rattle.hash.specs.Blocks.{wholeBlocks}
 use Rattle.hash.specs.Blocks.Laws.{Sized, whole-length, whole-sized, whole-flat}
-use Rattle.hash.specs.Sha2.{blockSize, fieldSize, zeros, padding, blocks}
+use Rattle.hash.specs.Sha2.{blockSize, fieldSize, zeros, lengthField, padding, blocks}
 
 -- no mark stands in zeros
 no-mark : (i : ℕ) (b : List ℕ) (j : ℕ) → replicate i 0 ≡ b ++ (0x80 ∷ replicate j 0) → ⊥
@@ -94,10 +92,14 @@ module _ (C : Core) (positive : 0 < blockSize C) where
         ]
       ]
 
+  field-length : (n : ℕ) → length (lengthField C n) ≡ fieldSize C
+  unfolding lengthField
+  field-length n = bytes-length (fieldSize C) _
+
   pub padding-length : (n : ℕ) → length (padding C n) ≡ 1 + zeros C n + fieldSize C
   unfolding padding
   padding-length n =
-      omega (arith, length-append (0x80 ∷ replicate (zeros C n) 0) (bytes (fieldSize C) (8 * n)), length-replicate {A = ℕ} (zeros C n) 0, bytes-length (fieldSize C) (8 * n))
+      omega (arith, length-append (0x80 ∷ replicate (zeros C n) 0) (lengthField C n), length-replicate {A = ℕ} (zeros C n) 0, field-length n)
 
   module _ (m : List ℕ) where
     padded-length : length (m ++ padding C (length m)) ≡ length m + 1 + zeros C (length m) + fieldSize C
@@ -125,12 +127,11 @@ module _ (C : Core) (positive : 0 < blockSize C) where
   unfolding padding
   blocks-injective m n e =
       let z : ℕ → ℕ = zeros C in
-      let f : ℕ → List ℕ = λ k. bytes (fieldSize C) (8 * k) in
       let front : List ℕ → List ℕ = λ l. l ++ (0x80 ∷ replicate (z (length l)) 0) in
-      let whole : (l : List ℕ) → l ++ padding C (length l) ≡ front l ++ f (length l) =
-      λ l. sym (append-assoc l (0x80 ∷ replicate (z (length l)) 0) (f (length l))) in
-      let joined : front m ++ f (length m) ≡ front n ++ f (length n) =
+      let f : List ℕ → List ℕ = λ l. lengthField C (length l) in
+      let whole : (l : List ℕ) → l ++ padding C (length l) ≡ front l ++ f l =
+      λ l. sym (append-assoc l (0x80 ∷ replicate (z (length l)) 0) (f l)) in
+      let joined : front m ++ f m ≡ front n ++ f n =
       sym (whole m) ∙ sym (blocks-joined m) ∙ ap flatten e ∙ blocks-joined n ∙ whole n in
-      let same : length (f (length m)) ≡ length (f (length n)) =
-      bytes-length (fieldSize C) (8 * length m) ∙ sym (bytes-length (fieldSize C) (8 * length n)) in
-      marked m n (z (length m)) (z (length n)) (fronts (front m) (f (length m)) (front n) (f (length n)) same joined)
+      let same : length (f m) ≡ length (f n) = field-length (length m) ∙ sym (field-length (length n)) in
+      marked m n (z (length m)) (z (length n)) (fronts (front m) (f m) (front n) (f n) same joined)

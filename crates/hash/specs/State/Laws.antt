@@ -1,12 +1,12 @@
 -- Laws of work in pieces, for the layers above: bytes cut anywhere lead to one state, bytes keep a state sound and are counted,
 -- and a start that took a message ends in the message's digest. Assumes nothing.
 use mathlib.Core.Path.{_≡_, refl, sym, ap, _∙_}
-use mathlib.Core.Bool.{Bool, true, _&&_}
+use mathlib.Core.Bool.{true, _&&_}
 use mathlib.Core.List.{List, [], _∷_, _++_, append-assoc, append-nil, foldl}
-use Prim.Native.Nat.{ℕ, zero, suc, _+_, _-_, _*_, _/_, _%_, _^_, _≤_, _<_}
+use Prim.Native.Nat.{ℕ, _+_, _-_, _%_, _≤_, _<_}
 use native.Mathlib.Nat.{add-zero, zero-add, zero-mod, mod-lt, mod-add-mod}
 use native.Mathlib.Omega.{arith}
-use lib.Dec.{leb, ltb, eqb, lit<, lit≤}
+use lib.Dec.{leb, eqb, lit<, lit≤}
 use lib.ListN.{length, take, drop, replicate, length-append, length-drop, length-replicate, take-append-drop}
 use lib.Seq.{take-at, drop-at, length-take-le}
 use borrow.Author.Tests.{le-leb, leb-true}
@@ -20,7 +20,7 @@ use Rattle.hash.specs.Table.{first64, first32, upper}
 use Rattle.hash.specs.Description.{describe, narrow, wide}
 use Rattle.hash.specs.Blocks.{wholeBlocks, leftOver, wordsAfter}
 use Rattle.hash.specs.Blocks.Laws.{left-length, left-short, left-append, words-short, words-append}
-use Rattle.hash.specs.Sha2.{blockSize, step, padding, blocks, keep, digest, digestFrom}
+use Rattle.hash.specs.Sha2.{step, padding, blocks, keep}
 use Rattle.hash.specs.Sha2.Laws.{step-fits}
 use Rattle.hash.specs.Digest.{digestOf}
 use Rattle.hash.specs.Digest.Laws.{block-is, first-length, fold-length, keep-length}

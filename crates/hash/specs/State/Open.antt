@@ -1,10 +1,10 @@
 -- Work in pieces opened, for this crate's own proofs alone: the definitions as the code goes. Assumes nothing.
-use mathlib.Core.Path.{_≡_, refl, sym, ap, _∙_}
-use mathlib.Core.Bool.{Bool, true, false}
+use mathlib.Core.Path.{_≡_, refl, ap, _∙_}
+use mathlib.Core.Bool.{true, false}
 use mathlib.Core.List.{List, _++_}
 use Prim.Native.Nat.{ℕ, _+_, _-_, _≤_, _<_}
 use native.Mathlib.Omega.{arith}
-use lib.Dec.{leb, eqb}
+use lib.Dec.{eqb}
 use lib.ListN.{length, take, drop, replicate, length-append, length-drop}
 use lib.Seq.{take-length, drop-drop, length-take-le, paste}
 use borrow.Author.Tests.{le-leb, lt-leb}
@@ -20,7 +20,7 @@ use Rattle.hash.specs.Blocks.{leftOver}
 use Rattle.hash.specs.Blocks.Laws.{left-short, words-short, left-filled, words-filled}
 use Rattle.hash.specs.Sha2.{step, keep}
 use Rattle.hash.specs.State.{places, heldOf, waitingOf, fit, wordsOf, placed, lastWords, soundOf, freshOf, zeroState, afterOf, endOf}
-use Rattle.hash.specs.State.Laws.{block-positive, held-less, waiting-length, sound-zeros}
+use Rattle.hash.specs.State.Laws.{block-positive, waiting-length, sound-zeros}
 use Rattle.hash.specs.Inside.{Fills, withWaiting}
 use Rattle.hash.specs.declared.state.State.{State}
 

@@ -1,7 +1,6 @@
 -- `hash::ending::finish`: its checks in their order, then the digest. Assumes nothing.
 use mathlib.Core.Path.{_≡_, sym, ap, _∙_}
 use mathlib.Core.Bool.{true}
-use mathlib.Core.List.{List}
 use Prim.Native.Nat.{ℕ}
 use native.Mathlib.Omega.{arith}
 use borrow.Author.Needs.{needs}
@@ -9,8 +8,8 @@ use borrow.Author.Tests.{not-true, not-false}
 use denote.Ref.{now}
 use Rattle.algorithm.specs.Refusals.{done}
 use Rattle.hash.specs.Description.{describe}
-use Rattle.hash.specs.Sha2.{wordSize, spell, keep}
-use Rattle.hash.specs.State.{soundOf, lastWords, endOf}
+use Rattle.hash.specs.Sha2.{spell, keep}
+use Rattle.hash.specs.State.{soundOf, endOf}
 use Rattle.hash.specs.State.Laws.{sound-count, sound-words}
 use Rattle.hash.specs.State.Open.{end-is}
 use Rattle.hash.specs.Calls.Laws.{written, finish-not-sound, finish-wrong-size, finish-accepted}

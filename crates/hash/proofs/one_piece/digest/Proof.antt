@@ -8,7 +8,6 @@ use Rattle.algorithm.specs.Refusals.{done}
 use Rattle.hash.specs.Calls.{startOf, updateOf, finishOf, digestAnswer}
 use Rattle.hash.specs.Calls.Laws.{written}
 use Rattle.hash.specs.Pieces.Laws.{start-refuses, piece-refuses, end-answers}
-use Rattle.hash.specs.declared.state.State.{State}
 use Rattle.hash.specs.declared.state.Started.{Started}
 use Rattle.hash.specs.declared.state.Fed.{Fed}
 use Rattle.hash.proofs.one_piece.digest.Statement.{statement}
