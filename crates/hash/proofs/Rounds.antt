@@ -1,14 +1,16 @@
 -- Laws of the rounds and of the block step, over the core of a hash: each from what the functions that it calls ensure.
 -- Assumes nothing.
-use mathlib.Core.Path.{_≡_, sym, ap, _∙_}
+use mathlib.Core.Path.{_≡_, refl, sym, ap, _∙_}
 use mathlib.Core.List.{List, [], _∷_}
-use Prim.Native.Nat.{ℕ, _+_, _-_, _<_}
+use Prim.Native.Nat.{ℕ, zero, suc, _+_, _-_, _<_}
 use native.Mathlib.Numerals.{add-one}
-use lib.ListN.{getD, take, List·getD-map}
+use native.Mathlib.Omega.{arith}
+use lib.ListN.{length, getD, take, set, List·getD-map}
 use lib.Seq.{getD-take}
 use Rattle.hash.specs.Word.{add, ch, maj}
 use Rattle.hash.specs.Table.{k32, k64, upper}
 use Rattle.hash.specs.Description.{Core}
+use Rattle.hash.proofs.Copies.{copy-more}
 use Rattle.hash.specs.Sha2.{big0, big1, small0, small1, mix, schedule, t1, t2, round, rounds, sums, step}
 
 -- the round constants of the two cores, out of the one table
@@ -48,14 +50,28 @@ module _ (C : Core) where
   unfolding rounds
   rounds-more ws h t e g f = f ∙ (λ i. round C (e i) (g i) (getD ws t 0)) ∙ ap (rounds C ws h) (sym (add-one t))
 
-  pub sums-code : (h v : List ℕ) {x0 x1 x2 x3 x4 x5 x6 x7 : ℕ}
-      → x0 ≡ add (C .width) (getD h 0 0) (getD v 0 0) → x1 ≡ add (C .width) (getD h 1 0) (getD v 1 0)
-      → x2 ≡ add (C .width) (getD h 2 0) (getD v 2 0) → x3 ≡ add (C .width) (getD h 3 0) (getD v 3 0)
-      → x4 ≡ add (C .width) (getD h 4 0) (getD v 4 0) → x5 ≡ add (C .width) (getD h 5 0) (getD v 5 0)
-      → x6 ≡ add (C .width) (getD h 6 0) (getD v 6 0) → x7 ≡ add (C .width) (getD h 7 0) (getD v 7 0)
-      → x0 ∷ x1 ∷ x2 ∷ x3 ∷ x4 ∷ x5 ∷ x6 ∷ x7 ∷ [] ≡ sums C h v
+  -- each of the eight sums, and a turn of the loop over them
+  sums-at : (h v : List ℕ) (i : ℕ) → i < 8 → getD (sums C h v) i 0 ≡ add (C .width) (getD h i 0) (getD v i 0)
   unfolding sums
-  sums-code h v a b c d e f g j = λ i. a i ∷ b i ∷ c i ∷ d i ∷ e i ∷ f i ∷ g i ∷ j i ∷ []
+  sums-at h v zero l = refl
+  sums-at h v (suc zero) l = refl
+  sums-at h v (suc (suc zero)) l = refl
+  sums-at h v (suc (suc (suc zero))) l = refl
+  sums-at h v (suc (suc (suc (suc zero)))) l = refl
+  sums-at h v (suc (suc (suc (suc (suc zero))))) l = refl
+  sums-at h v (suc (suc (suc (suc (suc (suc zero)))))) l = refl
+  sums-at h v (suc (suc (suc (suc (suc (suc (suc zero))))))) l = refl
+  sums-at h v (suc (suc (suc (suc (suc (suc (suc (suc i)))))))) l = absurd (omega arith)
+
+  pub sums-length : (h v : List ℕ) → length (sums C h v) ≡ 8
+  unfolding sums
+  sums-length h v = refl
+
+  pub sums-more : (o h v : List ℕ) (i : ℕ) {x : ℕ} → i < length o → i < 8 → take i o ≡ take i (sums C h v)
+      → x ≡ add (C .width) (getD h i 0) (getD v i 0) → take (i + 1) (set o i x) ≡ take (i + 1) (sums C h v)
+  sums-more o h v i l m e f =
+      ap (λ (y : ℕ). take (i + 1) (set o i y)) (f ∙ sym (sums-at h v i m))
+      ∙ copy-more o (sums C h v) i l (omega (arith, sums-length h v)) e
 
   pub step-code : (h b : List ℕ) {ws v r : List ℕ} → ws ≡ schedule C b (C .rounds - 16) → v ≡ rounds C ws h (C .rounds)
       → r ≡ sums C h v → r ≡ step C h b

@@ -11,16 +11,16 @@ use Rattle.hash.specs.Blocks.{wholeBlocks}
 
 module _ (C : Core) where
   -- the bytes of a word, of a block and of the length field
-  unfoldable pub wordSize : ℕ
+  abbrev pub wordSize : ℕ
   wordSize = C .width / 8
 
   unfoldable pub blockSize : ℕ
-  blockSize = 16 * (C .width / 8)
+  blockSize = 16 * wordSize
 
   unfoldable pub fieldSize : ℕ
-  fieldSize = 2 * (C .width / 8)
+  fieldSize = 2 * wordSize
 
-  -- 4.1: the four functions with this core's amounts, and its sum
+  -- 4.1: the four functions with this core's amounts, and the sum
   unfoldable pub big0 : ℕ → ℕ
   big0 x = big (C .width) (C .big0-by) x
 
@@ -55,7 +55,7 @@ module _ (C : Core) where
 
   -- the t-th word of a block, and its first n words
   unfoldable pub word : List ℕ → ℕ → ℕ
-  word b t = number (take (C .width / 8) (drop (C .width / 8 * t) b))
+  word b t = number (take wordSize (drop (wordSize * t) b))
 
   unfoldable pub words : List ℕ → ℕ → List ℕ
   words b zero = []

@@ -123,16 +123,11 @@ fn rounds(w: [u32; 64], s: [u32; 8], k: &[u64; 80]) -> [u32; 8]
 fn sums(s: [u32; 8], v: [u32; 8]) -> [u32; 8]
     ensures { λ r. ⌜ r ≡ sha.sums narrow s v ⌝ }
 {
-    [
-        add(s[0], v[0]),
-        add(s[1], v[1]),
-        add(s[2], v[2]),
-        add(s[3], v[3]),
-        add(s[4], v[4]),
-        add(s[5], v[5]),
-        add(s[6], v[6]),
-        add(s[7], v[7]),
-    ]
+    let mut out = s;
+    for i in 0..8 {
+        out[i] = add(s[i], v[i]);
+    }
+    out
 }
 
 // The chaining words after the block that starts the bytes.
