@@ -51,13 +51,17 @@ pub record Held (s : State) : Type 0 where
   pub wide : length (s .waiting) ≡ places
   pub sound : soundOf s ≡ true
 
--- the state that has taken no byte
+-- the state that has taken no byte and goes on from these words
+abbrev pub from : Hash → List ℕ → State
+from h ws = record { hash = h; words = ws; count = 0; waiting = replicate places 0 }
+
+-- a start
 pub freshOf : Hash → State
-freshOf h = record { hash = h; words = describe h .first; count = 0; waiting = replicate places 0 }
+freshOf h = from h (describe h .first)
 
 -- what a refused start hands back: zeros that name hash 1
 pub zeroState : State
-zeroState = record { hash = Sha256; words = replicate 8 0; count = 0; waiting = replicate places 0 }
+zeroState = from Sha256 (replicate 8 0)
 
 -- the state after bytes more
 pub afterOf : State → List ℕ → State

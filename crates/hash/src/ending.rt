@@ -10,6 +10,7 @@ ghost use Rattle.hash.specs.Sha2.{wordSize, fieldSize, spell};
 ghost use Rattle.hash.specs.State.{places, lastWords};
 ghost use Rattle.hash.specs.Calls.{FinishOutcome};
 ghost use Rattle.hash.specs.Inside.{paddedEnd, Ends};
+use crate::state::PLACES;
 use crate::state::State;
 use algorithm::Hash;
 
@@ -63,13 +64,13 @@ fn padded_end(hash: Hash, at: usize) -> usize
 }
 
 // The waiting bytes with the padding behind them, up to `end`. The length is below 2^64, so its last eight bytes say it all.
-fn last_blocks(waiting: [u8; 128], at: usize, end: usize, bits: u64) -> [u8; 256]
+fn last_blocks(waiting: [u8; PLACES], at: usize, end: usize, bits: u64) -> [u8; 2 * PLACES]
     requires { ⌜ (at ≤ places) × (at + 9 ≤ end) × (end ≤ 256) ⌝ }
-    ensures { λ r. ⌜ take end r ≡ take at waiting ++ (128 ∷ replicate (end - (at + 9)) 0 ++ bytes 8 bits) ⌝ }
+    ensures { λ r. ⌜ take end r ≡ take at waiting ++ (0x80 ∷ replicate (end - (at + 9)) 0 ++ bytes 8 bits) ⌝ }
 {
-    let mut last = [0u8; 256];
+    let mut last = [0u8; 2 * PLACES];
     crate::place::put_at(&mut last, 0, &waiting[..at]);
-    last[at] = 128;
+    last[at] = 0x80;
     let field = eight_bytes(bits);
     crate::place::put_at(&mut last, end - 8, &field);
     last

@@ -1,4 +1,5 @@
-// One piece more. Whole blocks are read straight from the piece, and only what fills no block is copied.
+// One piece more. Whole blocks are read straight from the piece: only what fills no block, and what tops up bytes that wait, is
+// copied.
 ghost use mathlib.Core.Path.{_≡_};
 ghost use mathlib.Core.Bool.{true};
 ghost use mathlib.Core.List.{_++_};
@@ -7,10 +8,11 @@ ghost use lib.ListN.{length, take};
 ghost use lib.Seq.{paste};
 ghost use Rattle.algorithm.specs.Refusals.{mostBytes};
 ghost use Rattle.hash.specs.Blocks.{leftOver};
-ghost use Rattle.hash.specs.State.{places, fit, wordsOf, placed, afterOf};
+ghost use Rattle.hash.specs.State.{places, heldOf, fit, wordsOf, placed, afterOf};
 ghost use Rattle.hash.specs.Calls.{UpdateOutcome};
 ghost use Rattle.hash.specs.Inside.{withWaiting, Takes, Fills};
 use crate::state::Fed;
+use crate::state::PLACES;
 use crate::state::State;
 use algorithm::Hash;
 
@@ -29,18 +31,24 @@ fn kept(state: State, at: usize, piece: &[u8]) -> State
 }
 
 // What is left behind the last whole block, with zeros behind it.
-fn left_over(size: usize, bytes: &[u8]) -> [u8; 128]
+fn left_over(size: usize, bytes: &[u8]) -> [u8; PLACES]
     requires { ⌜ (0 < size) × (size ≤ places) ⌝ }
     ensures { λ r. ⌜ r ≡ placed (leftOver size (now (bytes .entry))) ⌝ }
 {
     let from = bytes.len() - bytes.len() % size;
-    let mut waiting = [0u8; 128];
+    let mut waiting = [0u8; PLACES];
     crate::place::put_at(&mut waiting, 0, &bytes[from..]);
     waiting
 }
 
 // The words after the block that the waiting bytes and the first bytes of a piece make.
-fn topped_up(hash: Hash, words: [u64; 8], waiting: [u8; 128], at: usize, bytes: &[u8]) -> [u64; 8]
+fn topped_up(
+    hash: Hash,
+    words: [u64; 8],
+    waiting: [u8; PLACES],
+    at: usize,
+    bytes: &[u8],
+) -> [u64; 8]
     requires { ⌜ at + length (now bytes) ≤ places ⌝ }
     requires { ⌜ fit hash words ≡ true ⌝ }
     ensures { λ r. ⌜ r ≡ wordsOf hash words (take at waiting ++ now (bytes .entry)) ⌝ }
@@ -73,6 +81,25 @@ fn filled(state: State, room: usize, piece: &[u8]) -> State
     }
 }
 
+// The state after a piece that comes where nothing waits.
+fn straight(state: State, piece: &[u8]) -> State
+    requires { ⌜ Takes state (now piece) ⌝ }
+    requires { ⌜ heldOf state ≡ 0 ⌝ }
+    ensures { λ r. ⌜ r ≡ afterOf state (now (piece .entry)) ⌝ }
+{
+    let hash = state.hash;
+    let size = algorithm::block_size(hash);
+    let words = state.words;
+    let after = crate::blocks::words_after(hash, words, piece);
+    let left = left_over(size, piece);
+    State {
+        hash,
+        words: after,
+        count: state.count + piece.len() as u64,
+        waiting: left,
+    }
+}
+
 // The state after a piece that is taken.
 fn taken(state: State, piece: &[u8]) -> State
     requires { ⌜ Takes state (now piece) ⌝ }
@@ -84,6 +111,9 @@ fn taken(state: State, piece: &[u8]) -> State
     let room = size - at;
     if piece.len() < room {
         return kept(state, at, piece);
+    }
+    if at == 0 {
+        return straight(state, piece);
     }
     filled(state, room, piece)
 }

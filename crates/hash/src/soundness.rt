@@ -30,8 +30,7 @@ fn words_fit(hash: Hash, words: [u64; 8]) -> bool
     }
 }
 
-// Whether a state is sound: its count within the limit, zeros behind the bytes that wait, and each word within its width. It
-// tests all bytes and words at once, with no early exit among them.
+// Whether a state is sound: its count within the limit, zeros behind the bytes that wait, and each word within its width.
 pub fn sound(state: State) -> bool
     ensures { λ r. ⌜ SoundOutcome state r ⌝ }
 {

@@ -2,6 +2,7 @@
 ghost use mathlib.Core.Path.{_≡_};
 ghost use Rattle.hash.specs.State.{freshOf, zeroState};
 ghost use Rattle.hash.specs.Calls.{StartOutcome};
+use crate::state::PLACES;
 use crate::state::Started;
 use crate::state::State;
 use algorithm::Hash;
@@ -12,7 +13,7 @@ fn fresh(hash: Hash) -> State
     ensures { λ r. ⌜ r ≡ freshOf hash ⌝ }
 {
     let words = crate::table::first_words(hash);
-    let waiting = [0u8; 128];
+    let waiting = [0u8; PLACES];
     State {
         hash,
         words,
@@ -26,7 +27,7 @@ fn zeros() -> State
     ensures { λ r. ⌜ r ≡ zeroState ⌝ }
 {
     let words = [0u64; 8];
-    let waiting = [0u8; 128];
+    let waiting = [0u8; PLACES];
     State {
         hash: Hash::Sha256,
         words,

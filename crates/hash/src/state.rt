@@ -3,13 +3,16 @@ ghost use mathlib.Core.Path.{_≡_};
 ghost use Rattle.hash.specs.State.{heldOf};
 use algorithm::Hash;
 
+// The places of the waiting array: the bytes of the largest block.
+pub const PLACES: usize = 128;
+
 // The hash that it was made for, the chaining words, how many bytes it took, and those of them that wait for a full block, with
 // zeros behind them. A block of either hash fits the waiting array.
 pub struct State {
     pub hash: Hash,
     pub words: [u64; 8],
     pub count: u64,
-    pub waiting: [u8; 128],
+    pub waiting: [u8; PLACES],
 }
 
 // What a start answers.

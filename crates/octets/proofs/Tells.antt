@@ -1,6 +1,5 @@
 -- Laws of two lists compared. Assumes nothing.
-use mathlib.Core.Path.{_≡_, refl, ap, sym, _∙_}
-use mathlib.Core.Bool.{Bool, true, false}
+use mathlib.Core.Path.{_≡_, ap, sym, _∙_}
 use mathlib.Core.List.{List}
 use Prim.Native.Nat.{ℕ, _+_, _<_}
 use native.Mathlib.Numerals.{add-one}
@@ -38,9 +37,3 @@ module _ (a b : List ℕ) (i bits : ℕ) (h : i < length a) (k : i < length b) w
             let z : bits ≡ 0 = eqb-true bits 0 (t .equal-true f) in
             eq-eqb (bitOr bits (bitXor x y)) 0 (rw (z, g, xor-self) (or-zero-l 0));
       }
-
--- no second answer tells the same
-pub tells-one : (r s : Bool) {a b : List ℕ} → Tells r a b → Tells s a b → r ≡ s
-tells-one true s t u = sym (u .equal-true (t .true-equal refl))
-tells-one false true t u = t .equal-true (u .true-equal refl)
-tells-one false false t u = refl

@@ -1,9 +1,9 @@
 -- Laws of the hashes that we make, for the layers above. Assumes nothing.
 use mathlib.Core.Path.{_≡_, refl}
 use mathlib.Core.Bool.{Bool, true, false, cond}
-use Prim.Native.Nat.{ℕ, _*_, _≤_}
+use Prim.Native.Nat.{ℕ, _*_, _≤_, _<_}
 use native.Mathlib.Omega.{arith}
-use lib.Dec.{lit≤}
+use lib.Dec.{lit<, lit≤}
 use Rattle.algorithm.specs.Hashes.{numberOf, blockOf, sizeOf, shortestOf, names, hashOf, whichOf}
 use Rattle.algorithm.specs.declared.hashes.Hash.{Hash}
 use Rattle.algorithm.specs.declared.hashes.Hash.the-variants.{Sha256, Sha512}
@@ -30,7 +30,7 @@ module _ (n : ℕ) where
   pub which-is : (h : Hash) → whichOf n ≡ Is h → (names n ≡ true) × (hashOf n ≡ h)
   which-is h e = known (names n) (hashOf n) h e
 
--- the shortest tag is half a digest, and a digest is shorter than a block
+-- the shortest tag is half a digest, and a digest is at most a block
 pub half-digest : (h : Hash) → 2 * shortestOf h ≡ sizeOf h
 half-digest Sha256 = refl
 half-digest Sha512 = refl
@@ -38,3 +38,16 @@ half-digest Sha512 = refl
 pub digest-fits-block : (h : Hash) → sizeOf h ≤ blockOf h
 digest-fits-block Sha256 = lit≤ tt
 digest-fits-block Sha512 = lit≤ tt
+
+-- a block has a byte; the largest block, and the largest digest
+pub block-positive : (h : Hash) → 0 < blockOf h
+block-positive Sha256 = lit< tt
+block-positive Sha512 = lit< tt
+
+pub block-most : (h : Hash) → blockOf h ≤ 128
+block-most Sha256 = lit≤ tt
+block-most Sha512 = lit≤ tt
+
+pub digest-most : (h : Hash) → sizeOf h ≤ 64
+digest-most Sha256 = lit≤ tt
+digest-most Sha512 = lit≤ tt

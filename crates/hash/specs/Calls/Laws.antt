@@ -1,5 +1,6 @@
 -- Laws of the calls, for the layers above and for this crate's proofs: what each answers once its checks are known. Assumes nothing.
 use mathlib.Core.Path.{_≡_, refl, sym, ap, subst}
+use mathlib.Core.Logic.{_↔_}
 use mathlib.Core.Bool.{Bool, true, false}
 use mathlib.Core.List.{List}
 use Prim.Native.Nat.{ℕ, _+_, _≤_, _<_}
@@ -12,7 +13,10 @@ use Rattle.algorithm.specs.Refusals.{done, unknownHash, messageTooLong, wrongSi
 use Rattle.hash.specs.Digest.{digestOf}
 use Rattle.hash.specs.State.{soundOf, Held, freshOf, zeroState, afterOf, endOf}
 use Rattle.hash.specs.State.Laws.{fresh-held, zero-held, after-held}
-use Rattle.hash.specs.Calls.{startOf, updateOf, finishOf, digestAnswer}
+use Rattle.algorithm.specs.Checks.{Fail, Pass}
+use Rattle.algorithm.specs.Checks.Refusing.{none, more}
+use Rattle.algorithm.specs.Checks.Laws.{exactly, exactly-done}
+use Rattle.hash.specs.Calls.{startChecks, updateChecks, finishChecks, digestChecks, startOf, updateOf, finishOf, digestAnswer}
 use Rattle.hash.specs.declared.state.State.{State}
 use Rattle.hash.specs.declared.state.Started.{Started}
 use Rattle.hash.specs.declared.state.Fed.{Fed}
@@ -78,6 +82,41 @@ module _ (n : ℕ) (m out : List ℕ) where
   pub digest-accepted : names n ≡ true → length m ≤ mostBytes → length out ≡ sizeOf (hashOf n) → digestAnswer n m out ≡ written done (digestOf (hashOf n) m)
   unfolding digestAnswer
   digest-accepted h l e = rw (h, le-leb (length m) mostBytes l, eq-eqb (length out) (sizeOf (hashOf n)) e)
+
+-- each number comes back exactly when its check fails and every earlier one passes
+module _ (k : ℕ) (refusal : k ≡ done → ⊥) where
+  pub start-exactly : (n : ℕ) → startOf n .number ≡ k ↔ Fail (startChecks n) k
+  unfolding startOf
+  start-exactly n = exactly (startChecks n) k refusal
+
+  pub update-exactly : (s : State) (p : List ℕ) → updateOf s p .number ≡ k ↔ Fail (updateChecks s p) k
+  unfolding updateOf
+  update-exactly s p = exactly (updateChecks s p) k refusal
+
+  pub finish-exactly : (s : State) (out : List ℕ) → finishOf s out .0 ≡ k ↔ Fail (finishChecks s out) k
+  unfolding finishOf
+  finish-exactly s out = exactly (finishChecks s out) k refusal
+
+  pub digest-exactly : (n : ℕ) (m out : List ℕ) → digestAnswer n m out .0 ≡ k ↔ Fail (digestChecks n m out) k
+  unfolding digestAnswer
+  digest-exactly n m out = exactly (digestChecks n m out) k refusal
+
+-- a call is done exactly when every check passes
+pub start-done : (n : ℕ) → startOf n .number ≡ done ↔ Pass (startChecks n)
+unfolding startOf
+start-done n = exactly-done (startChecks n) (more (λ e. omega arith) none)
+
+pub update-done : (s : State) (p : List ℕ) → updateOf s p .number ≡ done ↔ Pass (updateChecks s p)
+unfolding updateOf
+update-done s p = exactly-done (updateChecks s p) (more (λ e. omega arith) (more (λ e. omega arith) none))
+
+pub finish-done : (s : State) (out : List ℕ) → finishOf s out .0 ≡ done ↔ Pass (finishChecks s out)
+unfolding finishOf
+finish-done s out = exactly-done (finishChecks s out) (more (λ e. omega arith) (more (λ e. omega arith) none))
+
+pub digest-done : (n : ℕ) (m out : List ℕ) → digestAnswer n m out .0 ≡ done ↔ Pass (digestChecks n m out)
+unfolding digestAnswer
+digest-done n m out = exactly-done (digestChecks n m out) (more (λ e. omega arith) (more (λ e. omega arith) (more (λ e. omega arith) none)))
 
 -- every start hands back a sound state, also a refused one
 pub start-held : (n : ℕ) → Held (startOf n .state)

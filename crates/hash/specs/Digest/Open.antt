@@ -7,12 +7,12 @@ use Rattle.algorithm.specs.declared.hashes.Hash.{Hash}
 use Rattle.hash.specs.Description.{describe}
 use Rattle.hash.specs.Blocks.{wholeBlocks}
 use Rattle.hash.specs.Sha2.{blockSize, padding, step, blocks, keep, digest, digestFrom}
-use Rattle.hash.specs.Digest.{digestOf}
+use Rattle.hash.specs.Digest.{blocksOf, digestOf}
 
-pub digest-is : (h : Hash) (m : List ℕ)
-    → digestOf h m
-    ≡ keep (describe h)
-    (foldl (step (describe h .core)) (describe h .first)
-    (wholeBlocks (blockSize (describe h .core)) (m ++ padding (describe h .core) (length m))))
-unfolding digestOf digest digestFrom blocks
+pub blocks-is : (h : Hash) (m : List ℕ) → blocksOf h m ≡ wholeBlocks (blockSize (describe h .core)) (m ++ padding (describe h .core) (length m))
+unfolding blocksOf blocks
+blocks-is h m = refl
+
+pub digest-is : (h : Hash) (m : List ℕ) → digestOf h m ≡ keep (describe h) (foldl (step (describe h .core)) (describe h .first) (blocksOf h m))
+unfolding digestOf digest digestFrom blocksOf
 digest-is h m = refl

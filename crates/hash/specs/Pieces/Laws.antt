@@ -2,13 +2,13 @@
 -- Assumes nothing.
 use mathlib.Core.Path.{_≡_, refl, sym, ap, _∙_}
 use mathlib.Core.Bool.{Bool, true, false, cond}
-use mathlib.Core.List.{List, [], _∷_, _++_, append-nil}
+use mathlib.Core.List.{List, [], _∷_, _++_, append-nil, flatten}
 use Prim.Native.Nat.{ℕ, _+_, _≤_}
 use native.Mathlib.Nat.{zero-add}
 use native.Mathlib.Omega.{arith}
 use native.Mathlib.Decide.{ℕ-discrete, decLe}
 use lib.Dec.{eqb}
-use lib.ListN.{length}
+use lib.ListN.{length, length-append}
 use borrow.Author.Tests.{ne-eqb}
 use Rattle.algorithm.specs.declared.hashes.Hash.{Hash}
 use Rattle.algorithm.specs.Hashes.{names, hashOf, sizeOf}
@@ -16,7 +16,7 @@ use Rattle.algorithm.specs.Refusals.{done, unknownHash, mostBytes}
 use Rattle.hash.specs.State.{soundOf, Held, freshOf, afterOf, endOf}
 use Rattle.hash.specs.State.Laws.{after-nothing, after-append, after-held, after-hash, after-count, fresh-hash, fresh-count, sound-count, end-fresh}
 use Rattle.hash.specs.Calls.{startOf, updateOf, finishOf, digestAnswer}
-use Rattle.hash.specs.Calls.Laws.{fate, written, start-accepted, start-refused, start-held, update-accepted, update-too-long, update-held, finish-accepted, finish-wrong-size, digest-unknown, digest-too-long, digest-accepted, digest-wrong-size}
+use Rattle.hash.specs.Calls.Laws.{fate, fed, written, start-accepted, start-refused, start-held, update-accepted, update-too-long, update-held, finish-accepted, finish-wrong-size, digest-unknown, digest-too-long, digest-accepted, digest-wrong-size}
 use Rattle.hash.specs.Calls.Laws.Fate.{taken, refused}
 use Rattle.hash.specs.Pieces.{afterAll, takenOf}
 use Rattle.hash.specs.declared.state.State.{State}
@@ -37,6 +37,25 @@ pub all-held : (ps : List (List ℕ)) (s : State) → Held s → Held (afterAll 
 unfolding afterAll
 all-held [] s h = h
 all-held (p ∷ ps) s h = all-held ps (updateOf s p .state) (update-held s p h)
+
+-- pieces that fit the limit together are all taken
+pub all-taken : (ps : List (List ℕ)) (s : State) → Held s → s .count + length (flatten ps) ≤ mostBytes → takenOf s ps ≡ flatten ps
+unfolding takenOf flatten
+all-taken [] s h l = refl
+all-taken (p ∷ ps) s h l =
+    let n : length (p ++ flatten ps) ≡ length p + length (flatten ps) = length-append p (flatten ps) in
+    let f : s .count + length p ≤ mostBytes = omega arith in
+    let e : updateOf s p ≡ fed done (afterOf s p) = update-accepted s p (h .sound) f in
+    let c : afterOf s p .count ≡ s .count + length p = after-count s p in
+    rw e (ap (λ (r : List ℕ). p ++ r) (all-taken ps (afterOf s p) (after-held s p h f) (omega arith)))
+
+-- so bytes cut anywhere lead to one state
+pub cut-anywhere : (ps qs : List (List ℕ)) (s : State) → Held s → flatten ps ≡ flatten qs → s .count + length (flatten ps) ≤ mostBytes
+    → afterAll s ps ≡ afterAll s qs
+cut-anywhere ps qs s h e l =
+    after-all ps s h
+    ∙ ap (afterOf s) (all-taken ps s h l ∙ e ∙ sym (all-taken qs s h (rw e at l)))
+    ∙ sym (after-all qs s h)
 
 -- from an accepted start, after any pieces, finish answers what the one-piece call answers for the bytes taken
 pub pieces-finish : (n : ℕ) (ps : List (List ℕ)) (out : List ℕ) → names n ≡ true

@@ -6,10 +6,11 @@ use mathlib.Core.List.{List, [], _∷_, _++_, append-assoc, append-nil, foldl}
 use Prim.Native.Nat.{ℕ, _+_, _-_, _%_, _≤_, _<_}
 use native.Mathlib.Nat.{add-zero, zero-add, zero-mod, mod-lt, mod-add-mod}
 use native.Mathlib.Omega.{arith}
-use lib.Dec.{leb, eqb, lit<, lit≤}
+use lib.Dec.{leb, eqb}
 use lib.ListN.{length, take, drop, replicate, length-append, length-drop, length-replicate, take-append-drop}
 use lib.Seq.{take-at, drop-at, length-take-le}
 use borrow.Author.Tests.{le-leb, leb-true}
+use Rattle.algorithm.specs.Hashes.Laws.{block-most, block-positive}
 use Rattle.octets.specs.Every.{every, allZero}
 use Rattle.octets.specs.Every.Laws.{and-parts, every-drop, zeros-all, all-zeros}
 use Rattle.algorithm.specs.declared.hashes.Hash.{Hash}
@@ -22,21 +23,13 @@ use Rattle.hash.specs.Blocks.{wholeBlocks, leftOver, wordsAfter}
 use Rattle.hash.specs.Blocks.Laws.{left-length, left-short, left-append, words-short, words-append}
 use Rattle.hash.specs.Sha2.{step, padding, blocks, keep}
 use Rattle.hash.specs.Sha2.Laws.{step-fits}
-use Rattle.hash.specs.Digest.{digestOf}
+use Rattle.hash.specs.Digest.{digestOf, blocksOf}
 use Rattle.hash.specs.Digest.Laws.{block-is, first-length, fold-length, keep-length}
-use Rattle.hash.specs.Digest.Open.{digest-is}
-use Rattle.hash.specs.State.{places, heldOf, waitingOf, fit, wordsOf, placed, soundOf, Held, freshOf, zeroState, afterOf, endOf}
+use Rattle.hash.specs.Digest.Open.{blocks-is, digest-is}
+use Rattle.hash.specs.State.{places, heldOf, waitingOf, fit, wordsOf, placed, soundOf, Held, from, freshOf, zeroState, afterOf, endOf}
 use Rattle.hash.specs.declared.state.State.{State}
 
--- a block has a byte, and the largest has all places
-pub block-positive : (h : Hash) → 0 < blockOf h
-block-positive Sha256 = lit< tt
-block-positive Sha512 = lit< tt
-
-pub block-most : (h : Hash) → blockOf h ≤ places
-block-most Sha256 = lit≤ tt
-block-most Sha512 = lit≤ tt
-
+-- fewer bytes wait than a block has
 pub held-less : (s : State) → heldOf s < blockOf (s .hash)
 held-less s = mod-lt (s .count) (block-positive (s .hash))
 
@@ -46,6 +39,16 @@ held-most s = omega (arith, held-less s, block-most (s .hash))
 -- as many bytes wait as the count says
 pub waiting-length : (s : State) → length (s .waiting) ≡ places → length (waitingOf s) ≡ heldOf s
 waiting-length s w = length-take-le (heldOf s) (s .waiting) (omega (arith, held-most s))
+
+-- the test of a sound state, part by part
+pub sound-is : (s : State) → soundOf s ≡ (leb (s .count) mostBytes && (allZero (drop (heldOf s) (s .waiting)) && fit (s .hash) (s .words)))
+unfolding soundOf
+sound-is s = refl
+
+-- a state made by hand is sound where each part of the test holds
+pub sound-made : (s : State) → s .count ≤ mostBytes → allZero (drop (heldOf s) (s .waiting)) ≡ true → fit (s .hash) (s .words) ≡ true → soundOf s ≡ true
+unfolding soundOf
+sound-made s c z w = rw (le-leb (s .count) mostBytes c, z) w
 
 -- what the test of a sound state says
 module _ (s : State) (h : soundOf s ≡ true) where
@@ -211,16 +214,25 @@ end-after s m w =
     (ap (keep (describe (s .hash)))
     (sym (words-append B (step (describe (s .hash) .core)) (s .words) l (padding (describe (s .hash) .core) (s .count + length m)) (block-positive (s .hash)))))
 
--- a start that took a message ends in the message's digest
-pub end-fresh : (h : Hash) (m : List ℕ) → endOf (afterOf (freshOf h) m) ≡ digestOf h m
-unfolding freshOf wordsAfter
-end-fresh h m =
+-- a state that had taken no byte ends in the step folded over the message's padded blocks, from its own words
+pub end-from : (h : Hash) (ws m : List ℕ) → endOf (afterOf (from h ws) m) ≡ keep (describe h) (foldl (step (describe h .core)) ws (blocksOf h m))
+unfolding wordsAfter
+end-from h ws m =
     let z : 0 % blockOf h ≡ 0 = zero-mod (blockOf h) in
     let o : List ℕ = replicate places 0 in
-    let f = describe h .first in
     let C = describe h .core in
-    end-after (freshOf h) m refl
-    ∙ ap (λ (k : ℕ). keep (describe h) (wordsOf h f ((take k o ++ m) ++ padding C (0 + length m)))) z
-    ∙ ap (λ (k : ℕ). keep (describe h) (wordsOf h f (m ++ padding C k))) (zero-add (length m))
-    ∙ ap (λ (B : ℕ). keep (describe h) (foldl (step C) f (wholeBlocks B (m ++ padding C (length m))))) (sym (block-is h))
-    ∙ sym (digest-is h m)
+    end-after (from h ws) m refl
+    ∙ ap (λ (k : ℕ). keep (describe h) (wordsOf h ws ((take k o ++ m) ++ padding C (0 + length m)))) z
+    ∙ ap (λ (k : ℕ). keep (describe h) (wordsOf h ws (m ++ padding C k))) (zero-add (length m))
+    ∙ ap (λ (B : ℕ). keep (describe h) (foldl (step C) ws (wholeBlocks B (m ++ padding C (length m))))) (sym (block-is h))
+    ∙ ap (λ (bs : List (List ℕ)). keep (describe h) (foldl (step C) ws bs)) (sym (blocks-is h m))
+
+-- so a start that took a message ends in the message's digest
+pub end-fresh : (h : Hash) (m : List ℕ) → endOf (afterOf (freshOf h) m) ≡ digestOf h m
+unfolding freshOf
+end-fresh h m = end-from h (describe h .first) m ∙ sym (digest-is h m)
+
+-- and what a refused start handed back goes on from zero words
+pub end-zero : (m : List ℕ) → endOf (afterOf zeroState m) ≡ keep (describe Sha256) (foldl (step (describe Sha256 .core)) (replicate 8 0) (blocksOf Sha256 m))
+unfolding zeroState
+end-zero m = end-from Sha256 (replicate 8 0) m

@@ -1,13 +1,14 @@
 -- Work in pieces opened, for this crate's own proofs alone: the definitions as the code goes. Assumes nothing.
 use mathlib.Core.Path.{_≡_, refl, ap, _∙_}
 use mathlib.Core.Bool.{true, false}
-use mathlib.Core.List.{List, _++_}
+use mathlib.Core.List.{List, [], _++_}
 use Prim.Native.Nat.{ℕ, _+_, _-_, _≤_, _<_}
 use native.Mathlib.Omega.{arith}
 use lib.Dec.{eqb}
 use lib.ListN.{length, take, drop, replicate, length-append, length-drop}
 use lib.Seq.{take-length, drop-drop, length-take-le, paste}
 use borrow.Author.Tests.{le-leb, lt-leb}
+use Rattle.algorithm.specs.Hashes.Laws.{block-positive}
 use Rattle.octets.specs.Every.{allZero}
 use Rattle.octets.specs.Every.Laws.{every-drop, all-zeros}
 use Rattle.octets.specs.Parts.{part-all}
@@ -20,7 +21,7 @@ use Rattle.hash.specs.Blocks.{leftOver}
 use Rattle.hash.specs.Blocks.Laws.{left-short, words-short, left-filled, words-filled}
 use Rattle.hash.specs.Sha2.{step, keep}
 use Rattle.hash.specs.State.{places, heldOf, waitingOf, fit, wordsOf, placed, lastWords, soundOf, freshOf, zeroState, afterOf, endOf}
-use Rattle.hash.specs.State.Laws.{block-positive, waiting-length, sound-zeros}
+use Rattle.hash.specs.State.Laws.{waiting-length, sound-zeros}
 use Rattle.hash.specs.Inside.{Fills, withWaiting}
 use Rattle.hash.specs.declared.state.State.{State}
 
@@ -49,6 +50,15 @@ module _ (s : State) where
   pub sound-by-words : s .count ≤ mostBytes → allZero (drop (heldOf s) (s .waiting)) ≡ true → soundOf s ≡ fit (s .hash) (s .words)
   unfolding soundOf
   sound-by-words h e = rw (le-leb (s .count) mostBytes h, e)
+
+-- a piece where nothing waits, from what the callees of `straight` gave
+pub straight-after : (s : State) (p : List ℕ) (size : ℕ) (after left : List ℕ) → heldOf s ≡ 0 → size ≡ blockOf (s .hash)
+    → after ≡ wordsOf (s .hash) (s .words) p → left ≡ placed (leftOver size p)
+    → _≡_ {A = State} (record { hash = s .hash; words = after; count = s .count + length p; waiting = left }) (afterOf s p)
+unfolding afterOf
+straight-after s p size after left z es ea el =
+    let w : waitingOf s ≡ [] = ap (λ (k : ℕ). take k (s .waiting)) z in
+    rw (ea, el, es, w)
 
 -- a piece that fills no block
 pub kept-after : (s : State) (p : List ℕ) → length (s .waiting) ≡ places → soundOf s ≡ true → heldOf s + length p < blockOf (s .hash)

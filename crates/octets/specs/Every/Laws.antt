@@ -5,7 +5,6 @@ use mathlib.Core.List.{List, [], _∷_, _++_}
 use Prim.Native.Nat.{ℕ, zero, suc, _+_, _<_}
 use native.Mathlib.Nat.{le-of-suc-le-suc, not-suc-le-zero}
 use native.Mathlib.Numerals.{add-one}
-use native.Mathlib.Omega.{arith}
 use lib.Dec.{eqb}
 use lib.ListN.{length, getD, take, drop, replicate}
 use lib.Seq.{take-suc}
@@ -38,17 +37,12 @@ module _ (p : ℕ → Bool) where
   every-drop (suc n) [] h = refl
   every-drop (suc n) (x ∷ l) h = every-drop n l (and-parts (p x) (every p l) h .1)
 
-  -- each element passes, and where each passes all do
+  -- each element passes
   pub every-at : (l : List ℕ) → every p l ≡ true → (i : ℕ) → i < length l → p (getD l i 0) ≡ true
   unfolding every
   every-at [] h i k = absurd (not-suc-le-zero k)
   every-at (x ∷ l) h zero k = and-parts (p x) (every p l) h .0
   every-at (x ∷ l) h (suc i) k = every-at l (and-parts (p x) (every p l) h .1) i (le-of-suc-le-suc k)
-
-  pub every-all : (l : List ℕ) → ((i : ℕ) → i < length l → p (getD l i 0) ≡ true) → every p l ≡ true
-  unfolding every
-  every-all [] h = refl
-  every-all (x ∷ l) h = (λ i. h zero (omega arith) i && every p l) ∙ every-all l (λ i k. h (suc i) (omega arith))
 
 -- zeros are all zero, and a list that is all zero is zeros of its length
 pub zeros-all : (n : ℕ) → allZero (replicate n 0) ≡ true

@@ -2,7 +2,7 @@
 use mathlib.Core.Path.{_∙_}
 use native.Mathlib.Omega.{arith}
 use borrow.Author.Needs.{needs}
-use Rattle.hash.specs.State.Laws.{block-most}
+use Rattle.algorithm.specs.Hashes.Laws.{block-most}
 use Rattle.hash.proofs.LastBlocks.{field-most, end-one, end-two}
 use Rattle.hash.proofs.ending.padded_end.Statement.{statement}
 use Rattle.hash.proofs.ending.padded_end.Tie as tie

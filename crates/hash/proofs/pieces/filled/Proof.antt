@@ -4,7 +4,8 @@ use native.Mathlib.Omega.{arith}
 use lib.ListN.{length, length-map}
 use lib.Seq.{length-take-le}
 use borrow.Author.Needs.{needs}
-use Rattle.hash.specs.State.Laws.{block-positive, block-most, words-fit}
+use Rattle.algorithm.specs.Hashes.Laws.{block-most, block-positive}
+use Rattle.hash.specs.State.Laws.{words-fit}
 use Rattle.hash.specs.State.Open.{filled-after}
 use Rattle.hash.proofs.pieces.filled.Statement.{statement}
 use Rattle.hash.proofs.pieces.filled.Tie as tie

@@ -3,7 +3,8 @@ use mathlib.Core.Path.{_≡_, sym, _∙_}
 use native.Mathlib.Omega.{arith}
 use lib.ListN.{length, length-map}
 use borrow.Author.Needs.{needs}
-use Rattle.hash.specs.State.Laws.{block-most, held-less, sound-words}
+use Rattle.algorithm.specs.Hashes.Laws.{block-most}
+use Rattle.hash.specs.State.Laws.{held-less, sound-words}
 use Rattle.hash.specs.State.Open.{kept-after}
 use Rattle.hash.proofs.pieces.taken.Statement.{statement}
 use Rattle.hash.proofs.pieces.taken.Tie as tie
@@ -27,16 +28,22 @@ returns c =
     ∙ rw held
     (kept-after s (start .args .piece .now) w (start .pre .sound) (omega (arith, held, c .before .before .before .block-size .ensures, held-less s)))
 
+straight-requires : tie.Need-straight-requires
+straight-requires c κs =
+    let start = c .before .before .before .before .before in
+    (record { sound = start .pre .sound; fits = start .pre .fits }, sym (c .before .before .held .ensures) ∙ c .if2 .taken)
+
 filled-requires : tie.Need-filled-requires
 filled-requires c κs =
-    let start = c .before .before .before .before in
+    let start = c .before .before .before .before .before in
     let s = start .args .state in
-    let a = c .before .held .ensures in
-    let b = c .before .before .block-size .ensures in
+    let a = c .before .before .held .ensures in
+    let b = c .before .before .before .block-size .ensures in
     let l = held-less s in
     record { fills = omega arith; within = omega arith; fits = start .pre .fits; words = sound-words s (start .pre .sound) }
 
 pub taken-spec : {M : Type 1} → statement M
 taken-spec =
     tie.close
-    (tie.spec (λ c κs. search needs) (λ c κs. search needs) sub-room kept-requires returns filled-requires (λ c. search needs))
+    (tie.spec (λ c κs. search needs) (λ c κs. search needs) sub-room kept-requires returns straight-requires (λ c. search needs) filled-requires
+    (λ c. search needs))

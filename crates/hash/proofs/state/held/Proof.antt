@@ -2,7 +2,7 @@
 use mathlib.Core.Path.{ap}
 use Prim.Native.Nat.{ℕ, _%_}
 use borrow.Author.Needs.{needs}
-use Rattle.hash.specs.State.Laws.{block-positive}
+use Rattle.algorithm.specs.Hashes.Laws.{block-positive}
 use Rattle.hash.proofs.state.held.Statement.{statement}
 use Rattle.hash.proofs.state.held.Tie as tie
 

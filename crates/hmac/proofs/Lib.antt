@@ -1,0 +1,4 @@
+pub mod Buffers
+pub mod Starts
+pub mod Typed
+pub mod Messages

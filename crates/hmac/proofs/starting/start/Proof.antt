@@ -1,0 +1,50 @@
+-- `hmac::starting::start`: by what the number names, and the key's length. Assumes nothing.
+use mathlib.Core.Path.{sym, ap, _∙_}
+use native.Mathlib.Omega.{arith}
+use borrow.Author.Needs.{needs}
+use denote.Ref.{now}
+use Rattle.algorithm.specs.declared.hashes.Hash.{Hash}
+use Rattle.algorithm.specs.Hashes.Laws.{which-unknown, which-is}
+use Rattle.algorithm.specs.Refusals.{done, unknownHash, keyTooLong}
+use Rattle.hmac.specs.Keyed.{freshKeyed}
+use Rattle.hmac.specs.Calls.Laws.{started, start-unknown, start-too-long, start-accepted}
+use Rattle.hmac.proofs.starting.start.Statement.{statement}
+use Rattle.hmac.proofs.starting.start.Tie as tie
+
+returns : tie.Need-returns
+returns c =
+    let start = c .before .before .before .before .before in
+    let n = start .args .number in
+    ap (started unknownHash) (c .zeros .ensures)
+    ∙ sym (start-unknown n (now (start .args .key)) (which-unknown n (sym (c .before .before .before .which .ensures) ∙ c .before .enum-told .given .1)))
+
+returns-2 : tie.Need-returns-2
+returns-2 c =
+    let start = c .before .before .before .before .before .before .before in
+    let n = start .args .number in
+    let hash = c .before .before .before .named .given .0 .0 in
+    let known = which-is n hash (sym (c .before .before .before .before .before .which .ensures) ∙ c .before .before .before .named .given .1) in
+    ap (started keyTooLong) (c .zeros2 .ensures) ∙ sym (start-too-long n (now (start .args .key)) (known .0) (omega arith))
+
+keyed-by-requires : tie.Need-keyed-by-requires
+keyed-by-requires c κs =
+    let start = c .before .before .before .before .before .before in
+    let hash = c .before .before .named .given .0 .0 in
+    let known = which-is (start .args .number) hash (sym (c .before .before .before .before .which .ensures) ∙ c .before .before .named .given .1) in
+    (record { known = known .0; is = known .1 }, omega arith)
+
+returns-3 : tie.Need-returns-3
+returns-3 c =
+    let start = c .before .before .before .before .before .before .before in
+    let n = start .args .number in
+    let key = now (start .args .key) in
+    let hash = c .before .before .before .named .given .0 .0 in
+    let known = which-is n hash (sym (c .before .before .before .before .before .which .ensures) ∙ c .before .before .before .named .given .1) in
+    ap (started done) (c .keyed-by .ensures ∙ ap (λ (h : Hash). freshKeyed h key) (sym (known .1)))
+    ∙ sym (start-accepted n key (known .0) (omega arith))
+
+pub start-spec : {M : Type 1} → statement M
+start-spec =
+    tie.close
+    (tie.spec (λ c κs. search needs) (λ c. search needs) (λ c. search needs) (λ c κs. search needs) returns (λ c κs. search needs) returns-2
+    keyed-by-requires returns-3)

@@ -1,0 +1,214 @@
+-- Laws of the calls, for the layers above and for this crate's proofs: what each answers once its checks are known. Assumes nothing.
+use mathlib.Core.Path.{_≡_, refl, sym, ap, subst}
+use mathlib.Core.Logic.{_↔_}
+use mathlib.Core.Bool.{Bool, true, false, cond}
+use mathlib.Core.List.{List, [], _∷_}
+use Prim.Native.Nat.{ℕ, _+_, _-_, _≤_, _<_}
+use native.Mathlib.Omega.{arith}
+use lib.Dec.{eqb, leb}
+use lib.ListN.{length, take}
+use borrow.Author.Tests.{le-leb, lt-leb, leb-true, eq-eqb, ne-eqb}
+use Rattle.octets.specs.Every.Laws.{and-parts}
+use Rattle.octets.specs.Same.{equal}
+use Rattle.octets.specs.Same.Laws.{equal-tells}
+use Rattle.algorithm.specs.declared.hashes.Hash.{Hash}
+use Rattle.algorithm.specs.Hashes.{names, hashOf, blockOf, sizeOf, shortestOf}
+use Rattle.algorithm.specs.Refusals.{done, tagDiffers, unknownHash, keyTooLong, messageTooLong, tagLengthOutOfRange, wrongSize, stateNotSound, mostBytes}
+use Rattle.algorithm.specs.Checks.{Fail, check, firstFailing, answered}
+use Rattle.algorithm.specs.Checks.Laws.{exactly}
+use Rattle.hmac.specs.Hmac.{hmacOf, tagOf}
+use Rattle.hmac.specs.Keyed.{soundKeyed, freshKeyed, zeroKeyed, afterKeyed, fullTag}
+use Rattle.hmac.specs.Calls.{allowed, startChecks, updateChecks, tagChecks, verifyChecks, messageChecks, startOf, updateOf, tagAnswer, verifyAnswer, tagMessageAnswer, verifyMessageAnswer}
+use Rattle.hmac.specs.declared.keyed.Keyed.{Keyed}
+use Rattle.hmac.specs.declared.keyed.Started.{Started}
+use Rattle.hmac.specs.declared.keyed.Fed.{Fed}
+
+-- an answer with a keyed state, and one with an output
+abbrev pub started : ℕ → Keyed → Started
+started n k = record { number = n; keyed = k }
+
+abbrev pub fed : ℕ → Keyed → Fed
+fed n k = record { number = n; keyed = k }
+
+abbrev pub written : ℕ → List ℕ → ℕ × List ℕ
+written n out = (n, out)
+
+-- a tag length in its range, and one on either side of it
+module _ (h : Hash) (t : ℕ) where
+  pub length-allowed : shortestOf h ≤ t → t ≤ sizeOf h → allowed h t ≡ true
+  length-allowed l u = rw (le-leb (shortestOf h) t l) (le-leb t (sizeOf h) u)
+
+  pub length-below : t < shortestOf h → allowed h t ≡ false
+  length-below l = rw (lt-leb (shortestOf h) t l)
+
+  pub length-above : shortestOf h ≤ t → sizeOf h < t → allowed h t ≡ false
+  length-above l u = rw (le-leb (shortestOf h) t l) (lt-leb t (sizeOf h) u)
+
+  pub allowed-most : allowed h t ≡ true → t ≤ sizeOf h
+  allowed-most e = leb-true t (sizeOf h) (and-parts (leb (shortestOf h) t) (leb t (sizeOf h)) e .1)
+
+module _ (n : ℕ) (key : List ℕ) where
+  pub start-unknown : names n ≡ false → startOf n key ≡ started unknownHash zeroKeyed
+  unfolding startOf
+  start-unknown h = rw h
+
+  pub start-too-long : names n ≡ true → mostBytes < length key → startOf n key ≡ started keyTooLong zeroKeyed
+  unfolding startOf
+  start-too-long h l = rw (h, lt-leb (length key) mostBytes l)
+
+  pub start-accepted : names n ≡ true → length key ≤ mostBytes → startOf n key ≡ started done (freshKeyed (hashOf n) key)
+  unfolding startOf
+  start-accepted h l = rw (h, le-leb (length key) mostBytes l)
+
+module _ (k : Keyed) (p : List ℕ) where
+  pub update-not-sound : soundKeyed k ≡ false → updateOf k p ≡ fed stateNotSound k
+  unfolding updateOf
+  update-not-sound h = rw h
+
+  pub update-too-long : soundKeyed k ≡ true → mostBytes < k .count + length p → updateOf k p ≡ fed messageTooLong k
+  unfolding updateOf
+  update-too-long h l = rw (h, lt-leb (k .count + length p) mostBytes l)
+
+  pub update-accepted : soundKeyed k ≡ true → k .count + length p ≤ mostBytes → updateOf k p ≡ fed done (afterKeyed k p)
+  unfolding updateOf
+  update-accepted h l = rw (h, le-leb (k .count + length p) mostBytes l)
+
+module _ (k : Keyed) (t : ℕ) (out : List ℕ) where
+  pub tag-not-sound : soundKeyed k ≡ false → tagAnswer k t out ≡ written stateNotSound out
+  unfolding tagAnswer
+  tag-not-sound h = rw h
+
+  pub tag-out-of-range : soundKeyed k ≡ true → allowed (k .hash) t ≡ false → tagAnswer k t out ≡ written tagLengthOutOfRange out
+  unfolding tagAnswer
+  tag-out-of-range h a = rw (h, a)
+
+  pub tag-wrong-size : soundKeyed k ≡ true → allowed (k .hash) t ≡ true → (length out ≡ t → ⊥) → tagAnswer k t out ≡ written wrongSize out
+  unfolding tagAnswer
+  tag-wrong-size h a n = rw (h, a, ne-eqb (length out) t n)
+
+  pub tag-accepted : soundKeyed k ≡ true → allowed (k .hash) t ≡ true → length out ≡ t → tagAnswer k t out ≡ written done (take t (fullTag k))
+  unfolding tagAnswer
+  tag-accepted h a e = rw (h, a, eq-eqb (length out) t e)
+
+module _ (k : Keyed) (t : ℕ) (presented : List ℕ) where
+  pub verify-not-sound : soundKeyed k ≡ false → verifyAnswer k t presented ≡ stateNotSound
+  unfolding verifyAnswer
+  verify-not-sound h = rw h
+
+  pub verify-out-of-range : soundKeyed k ≡ true → allowed (k .hash) t ≡ false → verifyAnswer k t presented ≡ tagLengthOutOfRange
+  unfolding verifyAnswer
+  verify-out-of-range h a = rw (h, a)
+
+  pub verify-wrong-size : soundKeyed k ≡ true → allowed (k .hash) t ≡ true → (length presented ≡ t → ⊥) → verifyAnswer k t presented ≡ wrongSize
+  unfolding verifyAnswer
+  verify-wrong-size h a n = rw (h, a, ne-eqb (length presented) t n)
+
+  pub verify-compared : soundKeyed k ≡ true → allowed (k .hash) t ≡ true → length presented ≡ t
+      → verifyAnswer k t presented ≡ cond (equal presented (take t (fullTag k))) done tagDiffers
+  unfolding verifyAnswer
+  verify-compared h a e = rw (h, a, eq-eqb (length presented) t e)
+
+-- a keyed state that has taken exactly a message, so that tag and verify answer for it as the one-piece calls do
+pub record Message (k : Keyed) (n : ℕ) (key m : List ℕ) : Type 0 where
+  pub named : names n ≡ true
+  pub key-fits : length key ≤ mostBytes
+  pub fits : length m ≤ mostBytes - blockOf (hashOf n)
+  pub sound : soundKeyed k ≡ true
+  pub hash : k .hash ≡ hashOf n
+  pub tag : fullTag k ≡ hmacOf (hashOf n) key m
+
+module _ {k : Keyed} {n : ℕ} {key m : List ℕ} (M : Message k n key m) (t : ℕ) where
+  pub message-tag : (out : List ℕ) → tagAnswer k t out ≡ tagMessageAnswer n key m t out
+  unfolding tagAnswer tagMessageAnswer
+  message-tag out =
+      rw (M .named, M .sound, le-leb (length key) mostBytes (M .key-fits), le-leb (length m) (mostBytes - blockOf (hashOf n)) (M .fits))
+      (λ i. answered (check (allowed (M .hash i) t) tagLengthOutOfRange ∷ check (eqb (length out) t) wrongSize ∷ []) (take t (M .tag i)) out)
+
+  pub message-verify : (presented : List ℕ) → verifyAnswer k t presented ≡ verifyMessageAnswer n key m t presented
+  unfolding verifyAnswer verifyMessageAnswer
+  message-verify presented =
+      rw (M .named, M .sound, le-leb (length key) mostBytes (M .key-fits), le-leb (length m) (mostBytes - blockOf (hashOf n)) (M .fits))
+      (λ i.
+      firstFailing
+      (check (allowed (M .hash i) t) tagLengthOutOfRange
+      ∷ check (eqb (length presented) t) wrongSize
+      ∷ check (equal presented (take t (M .tag i))) tagDiffers
+      ∷ []))
+
+-- the one-piece calls where an early check fails
+module _ (n : ℕ) (key m : List ℕ) (t : ℕ) where
+  pub tag-message-unknown : (out : List ℕ) → names n ≡ false → tagMessageAnswer n key m t out ≡ written unknownHash out
+  unfolding tagMessageAnswer
+  tag-message-unknown out h = rw h
+
+  pub tag-message-key : (out : List ℕ) → names n ≡ true → mostBytes < length key → tagMessageAnswer n key m t out ≡ written keyTooLong out
+  unfolding tagMessageAnswer
+  tag-message-key out h l = rw (h, lt-leb (length key) mostBytes l)
+
+  pub tag-message-too-long : (out : List ℕ) → names n ≡ true → length key ≤ mostBytes → mostBytes - blockOf (hashOf n) < length m
+      → tagMessageAnswer n key m t out ≡ written messageTooLong out
+  unfolding tagMessageAnswer
+  tag-message-too-long out h l g = rw (h, le-leb (length key) mostBytes l, lt-leb (length m) (mostBytes - blockOf (hashOf n)) g)
+
+  pub verify-message-unknown : (presented : List ℕ) → names n ≡ false → verifyMessageAnswer n key m t presented ≡ unknownHash
+  unfolding verifyMessageAnswer
+  verify-message-unknown presented h = rw h
+
+  pub verify-message-key : (presented : List ℕ) → names n ≡ true → mostBytes < length key → verifyMessageAnswer n key m t presented ≡ keyTooLong
+  unfolding verifyMessageAnswer
+  verify-message-key presented h l = rw (h, lt-leb (length key) mostBytes l)
+
+  pub verify-message-too-long : (presented : List ℕ) → names n ≡ true → length key ≤ mostBytes → mostBytes - blockOf (hashOf n) < length m
+      → verifyMessageAnswer n key m t presented ≡ messageTooLong
+  unfolding verifyMessageAnswer
+  verify-message-too-long presented h l g = rw (h, le-leb (length key) mostBytes l, lt-leb (length m) (mostBytes - blockOf (hashOf n)) g)
+
+-- each number comes back exactly when its check fails and every earlier one passes
+module _ (r : ℕ) (refusal : r ≡ done → ⊥) where
+  pub start-exactly : (n : ℕ) (key : List ℕ) → startOf n key .number ≡ r ↔ Fail (startChecks n key) r
+  unfolding startOf
+  start-exactly n key = exactly (startChecks n key) r refusal
+
+  pub update-exactly : (k : Keyed) (p : List ℕ) → updateOf k p .number ≡ r ↔ Fail (updateChecks k p) r
+  unfolding updateOf
+  update-exactly k p = exactly (updateChecks k p) r refusal
+
+  pub tag-exactly : (k : Keyed) (t : ℕ) (out : List ℕ) → tagAnswer k t out .0 ≡ r ↔ Fail (tagChecks k t out) r
+  unfolding tagAnswer
+  tag-exactly k t out = exactly (tagChecks k t out) r refusal
+
+  pub verify-exactly : (k : Keyed) (t : ℕ) (presented : List ℕ) → verifyAnswer k t presented ≡ r ↔ Fail (verifyChecks k t presented) r
+  unfolding verifyAnswer
+  verify-exactly k t presented = exactly (verifyChecks k t presented) r refusal
+
+  pub tag-message-exactly : (n : ℕ) (key m : List ℕ) (t : ℕ) (out : List ℕ)
+      → tagMessageAnswer n key m t out .0 ≡ r ↔ Fail (messageChecks n key m t out []) r
+  unfolding tagMessageAnswer
+  tag-message-exactly n key m t out = exactly (messageChecks n key m t out []) r refusal
+
+  pub verify-message-exactly : (n : ℕ) (key m : List ℕ) (t : ℕ) (presented : List ℕ)
+      → verifyMessageAnswer n key m t presented ≡ r
+      ↔ Fail (messageChecks n key m t presented (check (equal presented (tagOf (hashOf n) key t m)) tagDiffers ∷ [])) r
+  unfolding verifyMessageAnswer
+  verify-message-exactly n key m t presented = exactly _ r refusal
+
+-- once no other check fails, verify says yes exactly to the tag
+says-yes : (a b : List ℕ) → cond (equal a b) done tagDiffers ≡ done ↔ (a ≡ b)
+says-yes a b = (λ e. equal-tells a b .true-equal (yes (equal a b) e), λ e. ap (λ (x : Bool). cond x done tagDiffers) (equal-tells a b .equal-true e))
+  where
+    yes : (x : Bool) → cond x done tagDiffers ≡ done → x ≡ true
+    yes true e = refl
+    yes false e = absurd (omega arith)
+
+pub verify-tag : (k : Keyed) (t : ℕ) (presented : List ℕ) → soundKeyed k ≡ true → allowed (k .hash) t ≡ true → length presented ≡ t
+    → verifyAnswer k t presented ≡ done ↔ (presented ≡ take t (fullTag k))
+verify-tag k t presented h a e =
+    subst (λ (r : ℕ). r ≡ done ↔ (presented ≡ take t (fullTag k))) (sym (verify-compared k t presented h a e)) (says-yes presented (take t (fullTag k)))
+
+pub verify-message-tag : (n : ℕ) (key m : List ℕ) (t : ℕ) (presented : List ℕ) → names n ≡ true → length key ≤ mostBytes
+    → length m ≤ mostBytes - blockOf (hashOf n) → allowed (hashOf n) t ≡ true → length presented ≡ t
+    → verifyMessageAnswer n key m t presented ≡ done ↔ (presented ≡ tagOf (hashOf n) key t m)
+unfolding verifyMessageAnswer
+verify-message-tag n key m t presented h l g a e =
+    rw (h, le-leb (length key) mostBytes l, le-leb (length m) (mostBytes - blockOf (hashOf n)) g, a, eq-eqb (length presented) t e)
+    (says-yes presented (tagOf (hashOf n) key t m))

@@ -1,0 +1,55 @@
+-- Work in pieces under a key: a keyed state, when it is sound, and what bytes and the end make of it (docs/PROTOCOL.md, "Keys and
+-- tags"). What the calls promise is shut; its laws for the layers above are in Keyed/Laws.antt. Assumes nothing.
+pub mod Open
+pub mod Laws
+use mathlib.Core.Path.{_≡_}
+use mathlib.Core.Bool.{Bool, true, _&&_}
+use mathlib.Core.List.{List}
+use Prim.Native.Nat.{ℕ}
+use lib.Dec.{leb}
+use lib.ListN.{length, replicate}
+use Rattle.algorithm.specs.declared.hashes.Hash.{Hash}
+use Rattle.algorithm.specs.declared.hashes.Hash.the-variants.{Sha256}
+use Rattle.algorithm.specs.Hashes.{blockOf}
+use Rattle.hash.specs.declared.state.State.{State}
+use Rattle.hash.specs.State.{places, soundOf, freshOf, afterOf, endOf}
+use Rattle.hmac.specs.Form.{innerPad, outerPad}
+use Rattle.hmac.specs.declared.keyed.Keyed.{Keyed}
+
+-- the inner hash at work, and the outer one, which has taken its block
+abbrev pub innerOf : Keyed → State
+innerOf k = record { hash = k .hash; words = k .words; count = k .count; waiting = k .waiting }
+
+abbrev pub outerOf : Keyed → State
+outerOf k = record { hash = k .hash; words = k .outer; count = blockOf (k .hash); waiting = replicate places 0 }
+
+-- an inner state, with outer words
+abbrev pub joined : State → List ℕ → Keyed
+joined s ws = record { hash = s .hash; words = s .words; count = s .count; waiting = s .waiting; outer = ws }
+
+-- the test of a sound keyed state
+pub soundKeyed : Keyed → Bool
+soundKeyed k = soundOf (innerOf k) && (soundOf (outerOf k) && leb (blockOf (k .hash)) (k .count))
+
+-- a keyed state as the code can hold one, and sound
+pub record HeldKeyed (k : Keyed) : Type 0 where
+  pub eight : length (k .words) ≡ 8
+  pub wide : length (k .waiting) ≡ places
+  pub outer-eight : length (k .outer) ≡ 8
+  pub sound : soundKeyed k ≡ true
+
+-- the keyed state that has taken its key and no byte of a message
+pub freshKeyed : Hash → List ℕ → Keyed
+freshKeyed h key = joined (afterOf (freshOf h) (innerPad h key)) (afterOf (freshOf h) (outerPad h key) .words)
+
+-- what a refused start hands back: zeros that name hash 1
+pub zeroKeyed : Keyed
+zeroKeyed = record { hash = Sha256; words = replicate 8 0; count = 0; waiting = replicate places 0; outer = replicate 8 0 }
+
+-- the keyed state after bytes more
+pub afterKeyed : Keyed → List ℕ → Keyed
+afterKeyed k m = joined (afterOf (innerOf k) m) (k .outer)
+
+-- the full tag that a keyed state ends in
+pub fullTag : Keyed → List ℕ
+fullTag k = endOf (afterOf (outerOf k) (endOf (innerOf k)))

@@ -1,0 +1,75 @@
+// The keyed state that goes in by value and comes back, and the two states of the hash in it.
+ghost use mathlib.Core.Path.{_≡_};
+ghost use Rattle.hmac.specs.Keyed.{innerOf, outerOf, joined};
+use algorithm::Hash;
+use hash::PLACES;
+use hash::State;
+
+// The hash that it was made for; the inner hash at work, of which the first block counts; and the outer words, which have taken
+// their block and nothing more.
+pub struct Keyed {
+    pub hash: Hash,
+    pub words: [u64; 8],
+    pub count: u64,
+    pub waiting: [u8; PLACES],
+    pub outer: [u64; 8],
+}
+
+// What a keyed start answers.
+pub struct Started {
+    pub number: u32,
+    pub keyed: Keyed,
+}
+
+// What a piece leads to.
+pub struct Fed {
+    pub number: u32,
+    pub keyed: Keyed,
+}
+
+// The inner hash at work.
+pub(crate) fn inner(keyed: Keyed) -> State
+    ensures { λ r. ⌜ r ≡ innerOf keyed ⌝ }
+{
+    let hash = keyed.hash;
+    let words = keyed.words;
+    let waiting = keyed.waiting;
+    State {
+        hash,
+        words,
+        count: keyed.count,
+        waiting,
+    }
+}
+
+// The outer hash, which has taken its block.
+pub(crate) fn outer(keyed: Keyed) -> State
+    ensures { λ r. ⌜ r ≡ outerOf keyed ⌝ }
+{
+    let hash = keyed.hash;
+    let words = keyed.outer;
+    let waiting = [0u8; PLACES];
+    let size = algorithm::block_size(hash);
+    State {
+        hash,
+        words,
+        count: size as u64,
+        waiting,
+    }
+}
+
+// An inner state with outer words.
+pub(crate) fn join(state: State, outer: [u64; 8]) -> Keyed
+    ensures { λ r. ⌜ r ≡ joined state outer ⌝ }
+{
+    let hash = state.hash;
+    let words = state.words;
+    let waiting = state.waiting;
+    Keyed {
+        hash,
+        words,
+        count: state.count,
+        waiting,
+        outer,
+    }
+}

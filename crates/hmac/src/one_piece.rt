@@ -1,0 +1,58 @@
+// A message in one piece under a key.
+ghost use Rattle.hmac.specs.Calls.{TagMessageOutcome, VerifyMessageOutcome};
+ghost use Rattle.hmac.specs.Inside.{Taken};
+use crate::keyed::Fed;
+
+// The keyed state that has taken a message; 2 and 3 as a start gives them, 4 as a piece.
+fn taken(number: u32, key: &[u8], message: &[u8]) -> Fed
+    ensures { λ r. ⌜ Taken number (now (key .entry)) (now (message .entry)) r ⌝ }
+{
+    let started = crate::starting::start(number, key);
+    let keyed = started.keyed;
+    let refusal = started.number;
+    if refusal != algorithm::DONE {
+        return Fed {
+            number: refusal,
+            keyed,
+        };
+    }
+    crate::pieces::update(keyed, message)
+}
+
+// The tag of a message; 2, 3 and 4 as above, 5 and 6 as the tag of a keyed state.
+pub fn tag_message(
+    number: u32,
+    key: &[u8],
+    message: &[u8],
+    tag_length: usize,
+    out: &mut [u8],
+) -> u32
+    ensures { λ r. ⌜ TagMessageOutcome number (now (key .entry)) (now (message .entry)) «tag_length» (now (out .entry)) r (now (out .exit)) ⌝ }
+{
+    let fed = taken(number, key, message);
+    let refusal = fed.number;
+    if refusal != algorithm::DONE {
+        return refusal;
+    }
+    let keyed = fed.keyed;
+    crate::tags::tag(keyed, tag_length, out)
+}
+
+// Whether the presented bytes are the message's tag of this length; 2, 3, 4, 5 and 6 as for the tag, then 0 or 1.
+pub fn verify_message(
+    number: u32,
+    key: &[u8],
+    message: &[u8],
+    tag_length: usize,
+    presented: &[u8],
+) -> u32
+    ensures { λ r. ⌜ VerifyMessageOutcome number (now (key .entry)) (now (message .entry)) «tag_length» (now (presented .entry)) r ⌝ }
+{
+    let fed = taken(number, key, message);
+    let refusal = fed.number;
+    if refusal != algorithm::DONE {
+        return refusal;
+    }
+    let keyed = fed.keyed;
+    crate::tags::verify(keyed, tag_length, presented)
+}
