@@ -9,14 +9,11 @@ docs/PROTOCOL.md. Before it writes or compares anything the program holds itself
 hmac module."""
 import hashlib
 import hmac
-import pathlib
 import sys
 
 sys.dont_write_bytecode = True  # tests/ holds sources only
 import vectors
-from vectors import HASHES, MOST_BYTES, UNTOUCHED, State, answer
-
-EXPECTED = pathlib.Path(__file__).resolve().parent.parent / "crates" / "tag_vectors" / "stdout"
+from vectors import HASHES, MOST_BYTES, UNTOUCHED, State, answer, hold
 
 # The test cases of RFC 4231: key, message, the tag of SHA-256 and that of SHA-512. The fifth prints 16 bytes of each.
 CASES = [
@@ -55,11 +52,6 @@ CASES = [
 LENGTHS = {1: range(16, 33), 2: range(32, 65)}
 
 KEY, MESSAGE = b"Jefe", b"abc"
-
-
-def hold(fact, what):
-    if not fact:
-        sys.exit(f"tag_vectors: {what}")
 
 
 def name(hash):
@@ -395,22 +387,6 @@ def lines():
         yield from comparison(number)
 
 
-def main(arguments):
-    if arguments not in ([], ["--check"]):
-        sys.exit(__doc__)
-    hold_to_others()
-    made = [line + "\n" for line in lines()]
-    if not arguments:
-        sys.stdout.writelines(made)
-        return
-    place = "crates/tag_vectors/stdout"
-    if not EXPECTED.exists():
-        sys.exit(f"tag_vectors: {place} is missing: python3 tests/tag_vectors.py > {place}")
-    found = EXPECTED.read_text().splitlines(keepends=True)
-    if found != made:
-        first = next((i for i, (x, y) in enumerate(zip(found, made)) if x != y), min(len(found), len(made)))
-        sys.exit(f"tag_vectors: {place} differs from what tests/tag_vectors.py makes, first in line {first + 1}")
-
-
 if __name__ == "__main__":
-    main(sys.argv[1:])
+    hold_to_others()
+    vectors.write_or_check("tag_vectors", __doc__, lines(), sys.argv[1:])

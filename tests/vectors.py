@@ -12,7 +12,7 @@ import math
 import pathlib
 import sys
 
-EXPECTED = pathlib.Path(__file__).resolve().parent.parent / "crates" / "vectors" / "stdout"
+ROOT = pathlib.Path(__file__).resolve().parent.parent
 MOST_BYTES = 4294967295
 PLACES = 128
 UNTOUCHED = 0xA5
@@ -359,21 +359,23 @@ def lines():
         yield from going_on(hash)
 
 
-def main(arguments):
+def write_or_check(name, usage, made, arguments):
+    """Writes what the program crates/NAME must write, or compares it with the file that it is held to."""
     if arguments not in ([], ["--check"]):
-        sys.exit(__doc__)
-    hold_to_others()
-    made = [line + "\n" for line in lines()]
+        sys.exit(usage)
+    made = [line + "\n" for line in made]
     if not arguments:
         sys.stdout.writelines(made)
         return
-    if not EXPECTED.exists():
-        sys.exit("vectors: crates/vectors/stdout is missing: python3 tests/vectors.py > crates/vectors/stdout")
-    found = EXPECTED.read_text().splitlines(keepends=True)
+    place = f"crates/{name}/stdout"
+    expected = ROOT / place
+    hold(expected.exists(), f"{place} is missing: python3 tests/{name}.py > {place}")
+    found = expected.read_text().splitlines(keepends=True)
     if found != made:
-        place = next((i for i, (x, y) in enumerate(zip(found, made)) if x != y), min(len(found), len(made)))
-        sys.exit(f"vectors: crates/vectors/stdout differs from what tests/vectors.py makes, first in line {place + 1}")
+        first = next((i for i, (x, y) in enumerate(zip(found, made)) if x != y), min(len(found), len(made)))
+        hold(False, f"{place} differs from what tests/{name}.py makes, first in line {first + 1}")
 
 
 if __name__ == "__main__":
-    main(sys.argv[1:])
+    hold_to_others()
+    write_or_check("vectors", __doc__, lines(), sys.argv[1:])
