@@ -1,43 +1,13 @@
--- Laws of bytes in a longer buffer of zeros. Assumes nothing.
+-- Laws of masked bytes, and of the loop that masks a buffer. Assumes nothing.
 use mathlib.Core.Path.{_≡_, refl, sym, ap, _∙_}
-use mathlib.Core.List.{List, [], _∷_, _++_, append-assoc, append-nil}
-use Prim.Native.Nat.{ℕ, zero, suc, _+_, _-_, _≤_, _<_}
+use mathlib.Core.List.{List, [], _∷_, _++_, append-nil}
+use Prim.Native.Nat.{ℕ, zero, suc, _+_, _≤_, _<_}
 use native.Mathlib.Numerals.{add-one}
 use native.Mathlib.Omega.{arith}
 use lib.Bits.{bitXor}
-use lib.ListN.{length, getD, take, drop, set, replicate, length-append, length-drop, length-replicate, length-map, drop-of-length-le, replicate-append-replicate}
-use lib.Seq.{take-append-le, take-append-seam, take-all, take-suc, drop-cons, append-snoc, getD-at, set-at, length-take-le}
-use Rattle.octets.specs.Copy.{over}
-use Rattle.octets.specs.Copy.Laws.{over-short, over-long}
-use Rattle.octets.specs.Every.Laws.{every-drop, zeros-all, all-zeros}
-use Rattle.hmac.specs.Form.{zerosTo, masked}
-
--- bytes written over the beginning of zeros
-pub over-zeros : (n : ℕ) (l : List ℕ) → length l ≤ n → over l (replicate n 0) ≡ zerosTo n l
-over-zeros n l h =
-    let o : List ℕ = replicate n 0 in
-    let z : drop (length l) o ≡ replicate (n - length l) 0 =
-    all-zeros (drop (length l) o) (every-drop _ (length l) o (zeros-all n))
-    ∙ ap (λ (k : ℕ). replicate k 0) (length-drop (length l) o ∙ ap (λ (k : ℕ). k - length l) (length-replicate n 0))
-    in
-    over-short l o (omega (arith, length-replicate {A = ℕ} n 0)) ∙ ap (λ (r : List ℕ). l ++ r) z
-
-pub zeros-length : (n : ℕ) (l : List ℕ) → length l ≤ n → length (zerosTo n l) ≡ n
-zeros-length n l h = omega (arith, length-append l (replicate (n - length l) 0), length-replicate {A = ℕ} (n - length l) 0)
-
--- zeros behind zeros
-pub zeros-twice : (n k : ℕ) (l : List ℕ) → length l ≤ k → k ≤ n → zerosTo n (zerosTo k l) ≡ zerosTo n l
-zeros-twice n k l h g =
-    let e : (k - length l) + (n - length (zerosTo k l)) ≡ n - length l = omega (arith, zeros-length k l h) in
-    append-assoc l (replicate (k - length l) 0) (replicate (n - length (zerosTo k l)) 0)
-    ∙ ap (λ (r : List ℕ). l ++ r) (replicate-append-replicate (k - length l) (n - length (zerosTo k l)) 0 ∙ ap (λ (i : ℕ). replicate i 0) e)
-
--- the bytes again
-pub take-zeros : (n t : ℕ) (l : List ℕ) → t ≤ length l → take t (zerosTo n l) ≡ take t l
-take-zeros n t l h = take-append-le t l (replicate (n - length l) 0) h
-
-pub take-whole : (n t : ℕ) (l : List ℕ) → length l ≡ t → take t (zerosTo n l) ≡ l
-take-whole n t l e = ap (λ (k : ℕ). take k (zerosTo n l)) (sym e) ∙ take-append-seam l (replicate (n - length l) 0)
+use lib.ListN.{length, getD, take, drop, set, length-map, drop-of-length-le}
+use lib.Seq.{take-all, take-suc, drop-cons, append-snoc, getD-at, set-at, length-take-le}
+use Rattle.hmac.specs.Form.{masked}
 
 pub take-masked : (x n : ℕ) (l : List ℕ) → take n (masked x l) ≡ masked x (take n l)
 take-masked x zero l = refl
@@ -66,10 +36,3 @@ mask-more x o i {out} h e =
 
 pub mask-done : (x : ℕ) (o : List ℕ) (i : ℕ) → length o ≤ i → masked x (take i o) ++ drop i o ≡ masked x o
 mask-done x o i h = (λ j. masked x (take-all i o h j) ++ drop-of-length-le o {i = i} h j) ∙ append-nil (masked x o)
-
--- the beginning of bytes with zeros behind them, over a buffer that it fills
-pub over-buffer : (n t : ℕ) (l out : List ℕ) → length out ≡ t → t ≤ length l → length l ≤ n → over (zerosTo n l) out ≡ take t l
-over-buffer n t l out e h g =
-    over-long (zerosTo n l) out (omega (arith, zeros-length n l g))
-    ∙ ap (λ (k : ℕ). take k (zerosTo n l)) e
-    ∙ take-zeros n t l h

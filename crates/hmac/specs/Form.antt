@@ -3,17 +3,14 @@ pub mod Laws
 use mathlib.Core.Path.{_≡_}
 use mathlib.Core.Bool.{cond}
 use mathlib.Core.List.{List, _++_, map}
-use Prim.Native.Nat.{ℕ, _-_}
+use Prim.Native.Nat.{ℕ}
 use lib.Bits.{bitXor}
 use lib.Dec.{leb}
 use lib.ListN.{length, replicate}
+use Rattle.octets.specs.Zeros.{zerosTo}
 use Rattle.algorithm.specs.declared.hashes.Hash.{Hash}
 use Rattle.algorithm.specs.Hashes.{blockOf}
 use Rattle.hash.specs.Digest.{digestOf}
-
--- bytes with zeros behind them, to n
-abbrev pub zerosTo : ℕ → List ℕ → List ℕ
-zerosTo n l = l ++ replicate (n - length l) 0
 
 -- the block form: a key of at most a block as it is, a longer one by its digest, with zeros to a block
 unfoldable pub formOf : Hash → List ℕ → List ℕ

@@ -6,7 +6,7 @@ ghost use lib.ListN.{length};
 ghost use Rattle.octets.specs.Copy.{over};
 ghost use Rattle.algorithm.specs.Hashes.{sizeOf};
 ghost use Rattle.hash.specs.State.{soundOf, endOf};
-ghost use Rattle.hmac.specs.Form.{zerosTo};
+ghost use Rattle.octets.specs.Zeros.{zerosTo};
 use hash::State;
 
 // Over the beginning of a buffer.

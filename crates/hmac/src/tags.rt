@@ -1,7 +1,7 @@
 // The tag of a keyed state, and its comparison with a presented one.
 ghost use mathlib.Core.Path.{_≡_};
 ghost use mathlib.Core.Bool.{true};
-ghost use Rattle.hmac.specs.Form.{zerosTo};
+ghost use Rattle.octets.specs.Zeros.{zerosTo};
 ghost use Rattle.hmac.specs.Keyed.{soundKeyed, fullTag};
 ghost use Rattle.hmac.specs.Calls.{allowed, TagOutcome, VerifyOutcome};
 use crate::keyed::Keyed;

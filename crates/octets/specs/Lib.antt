@@ -1,4 +1,5 @@
 pub mod Copy
+pub mod Zeros
 pub mod Number
 pub mod Every
 pub mod Same

@@ -39,7 +39,7 @@ pub digest-fits-block : (h : Hash) → sizeOf h ≤ blockOf h
 digest-fits-block Sha256 = lit≤ tt
 digest-fits-block Sha512 = lit≤ tt
 
--- a block has a byte; the largest block, and the largest digest
+-- a block has a byte; the largest block, and the smallest and the largest digest
 pub block-positive : (h : Hash) → 0 < blockOf h
 block-positive Sha256 = lit< tt
 block-positive Sha512 = lit< tt
@@ -47,6 +47,10 @@ block-positive Sha512 = lit< tt
 pub block-most : (h : Hash) → blockOf h ≤ 128
 block-most Sha256 = lit≤ tt
 block-most Sha512 = lit≤ tt
+
+pub digest-least : (h : Hash) → 32 ≤ sizeOf h
+digest-least Sha256 = lit≤ tt
+digest-least Sha512 = lit≤ tt
 
 pub digest-most : (h : Hash) → sizeOf h ≤ 64
 digest-most Sha256 = lit≤ tt

@@ -17,7 +17,8 @@ use Rattle.algorithm.specs.Hashes.{blockOf}
 use Rattle.algorithm.specs.Hashes.Laws.{digest-fits-block}
 use Rattle.hash.specs.Digest.{digestOf}
 use Rattle.hash.specs.Digest.Laws.{digest-length}
-use Rattle.hmac.specs.Form.{zerosTo, formOf, masked, innerPad, outerPad, SameButZeros}
+use Rattle.octets.specs.Zeros.{zerosTo}
+use Rattle.hmac.specs.Form.{formOf, masked, innerPad, outerPad, SameButZeros}
 
 -- a digit with another is a digit, and with it once more itself
 differ-lt : (x y : ℕ) → x < 2 → y < 2 → differ x y < 2

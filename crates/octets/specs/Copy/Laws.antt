@@ -5,11 +5,15 @@ use Prim.Native.Nat.{ℕ, zero, suc, _+_, _≤_, _<_}
 use native.Mathlib.Nat.{not-suc-le-zero, le-of-suc-le-suc}
 use native.Mathlib.Numerals.{add-one}
 use native.Mathlib.Omega.{arith}
-use lib.ListN.{length, take, drop, set, getD, drop-of-length-le}
+use lib.ListN.{length, take, drop, set, getD, drop-of-length-le, length-append, length-take, length-drop}
 use lib.Seq.{take-all, take-length, drop-length}
 use Rattle.octets.specs.Copy.{over}
 
 module _ (s o : List ℕ) where
+  -- what is written over keeps its length
+  pub over-length : length (over s o) ≡ length o
+  over-length = simp (length-append, length-take, length-drop) (omega arith)
+
   -- all of s where it fits
   pub over-short : length s ≤ length o → over s o ≡ s ++ drop (length s) o
   over-short h = rw (take-all (length o) s h)

@@ -5,7 +5,7 @@ use lib.ListN.{length, length-map}
 use borrow.Author.Needs.{needs}
 use Rattle.hash.specs.State.{endOf}
 use Rattle.hash.specs.State.Laws.{end-length}
-use Rattle.hmac.proofs.Buffers.{over-zeros}
+use Rattle.octets.specs.Zeros.Laws.{over-zeros}
 use Rattle.algorithm.specs.Hashes.Laws.{digest-most}
 use Rattle.hmac.proofs.ending.ended.Statement.{statement}
 use Rattle.hmac.proofs.ending.ended.Tie as tie

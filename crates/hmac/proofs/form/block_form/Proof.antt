@@ -7,9 +7,9 @@ use Rattle.algorithm.specs.Hashes.{blockOf}
 use Rattle.algorithm.specs.Hashes.Laws.{block-most, digest-fits-block}
 use Rattle.hash.specs.Digest.{digestOf}
 use Rattle.hash.specs.Digest.Laws.{digest-length}
-use Rattle.hmac.specs.Form.{zerosTo}
+use Rattle.octets.specs.Zeros.{zerosTo}
 use Rattle.hmac.specs.Form.Laws.{form-short, form-long}
-use Rattle.hmac.proofs.Buffers.{zeros-twice}
+use Rattle.octets.specs.Zeros.Laws.{zeros-twice}
 use Rattle.hmac.proofs.form.block_form.Statement.{statement}
 use Rattle.hmac.proofs.form.block_form.Tie as tie
 

@@ -2,7 +2,7 @@
 use mathlib.Core.Path.{_∙_}
 use borrow.Author.Needs.{needs}
 use denote.Ref.{now}
-use Rattle.hmac.proofs.Buffers.{over-zeros}
+use Rattle.octets.specs.Zeros.Laws.{over-zeros}
 use Rattle.hmac.proofs.form.copied.Statement.{statement}
 use Rattle.hmac.proofs.form.copied.Tie as tie
 

@@ -7,8 +7,8 @@ use Rattle.hash.specs.Digest.{digestOf}
 use Rattle.hash.specs.State.{endOf}
 use Rattle.hash.specs.State.Laws.{end-fresh}
 use Rattle.hash.specs.declared.state.State.{State}
-use Rattle.hmac.specs.Form.{zerosTo}
-use Rattle.hmac.proofs.Buffers.{zeros-twice}
+use Rattle.octets.specs.Zeros.{zerosTo}
+use Rattle.octets.specs.Zeros.Laws.{zeros-twice}
 use Rattle.hmac.proofs.Starts.{took, took-sound, digest-room}
 use Rattle.hmac.proofs.form.digested.Statement.{statement}
 use Rattle.hmac.proofs.form.digested.Tie as tie

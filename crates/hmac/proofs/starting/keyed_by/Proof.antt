@@ -12,7 +12,8 @@ use Rattle.hmac.specs.Form.{formOf, masked, innerPad, outerPad}
 use Rattle.hmac.specs.Form.Laws.{form-length}
 use Rattle.hmac.specs.Keyed.{joined}
 use Rattle.hmac.specs.Keyed.Open.{fresh-is}
-use Rattle.hmac.proofs.Buffers.{take-masked, take-whole}
+use Rattle.octets.specs.Zeros.Laws.{take-whole}
+use Rattle.hmac.proofs.Buffers.{take-masked}
 use Rattle.hmac.proofs.starting.keyed_by.Statement.{statement}
 use Rattle.hmac.proofs.starting.keyed_by.Tie as tie
 

@@ -16,13 +16,13 @@ use Rattle.hash.specs.Calls.{updateOf}
 use Rattle.hash.specs.Calls.Laws.{update-accepted}
 use Rattle.hash.specs.declared.state.State.{State}
 use Rattle.hash.specs.declared.state.Fed.{Fed}
-use Rattle.hmac.specs.Form.{zerosTo}
+use Rattle.octets.specs.Zeros.{zerosTo}
 use Rattle.hmac.specs.Keyed.{innerOf, outerOf, HeldKeyed, fullTag}
 use Rattle.hmac.specs.Keyed.Laws.{sound-inner, outer-held}
 use Rattle.hmac.specs.Keyed.Open.{full-is}
 use Rattle.hmac.specs.declared.keyed.Keyed.{Keyed}
 use Rattle.hmac.proofs.Typed.{typed-held}
-use Rattle.hmac.proofs.Buffers.{take-whole}
+use Rattle.octets.specs.Zeros.Laws.{take-whole}
 use Rattle.hmac.proofs.tags.full.Statement.{statement}
 use Rattle.hmac.proofs.tags.full.Tie as tie
 

@@ -16,7 +16,7 @@ use Rattle.hmac.specs.Calls.{allowed}
 use Rattle.octets.specs.Copy.{over}
 use Rattle.hmac.specs.Calls.Laws.{written, allowed-most, tag-not-sound, tag-out-of-range, tag-wrong-size, tag-accepted}
 use Rattle.hmac.proofs.Typed.{typed-held}
-use Rattle.hmac.proofs.Buffers.{over-buffer}
+use Rattle.octets.specs.Zeros.Laws.{over-buffer}
 use Rattle.hmac.proofs.tags.tag.Statement.{statement}
 use Rattle.hmac.proofs.tags.tag.Tie as tie
 

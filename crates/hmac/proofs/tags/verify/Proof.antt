@@ -11,7 +11,7 @@ use borrow.Author.Tests.{not-true, not-false}
 use denote.Ref.{now}
 use Rattle.algorithm.specs.Hashes.Laws.{digest-most}
 use Rattle.algorithm.specs.Refusals.{done, tagDiffers}
-use Rattle.hmac.specs.Form.{zerosTo}
+use Rattle.octets.specs.Zeros.{zerosTo}
 use Rattle.hmac.specs.Keyed.{soundKeyed, HeldKeyed, fullTag}
 use Rattle.hmac.specs.Keyed.Laws.{full-length}
 use Rattle.hmac.specs.Calls.{allowed}
@@ -21,7 +21,7 @@ use Rattle.hmac.specs.Calls.Laws.{allowed-most, verify-not-sound, verify
 use Rattle.hmac.specs.Calls.{verifyAnswer}
 use Rattle.hmac.specs.declared.keyed.Keyed.{Keyed}
 use Rattle.hmac.proofs.Typed.{typed-held}
-use Rattle.hmac.proofs.Buffers.{take-zeros}
+use Rattle.octets.specs.Zeros.Laws.{take-zeros}
 use mathlib.Core.Bool.{cond}
 use Rattle.hmac.proofs.tags.verify.Statement.{statement}
 use Rattle.hmac.proofs.tags.verify.Tie as tie

@@ -1,0 +1,3 @@
+pub mod Extracts
+pub mod Stretches
+pub mod Filling

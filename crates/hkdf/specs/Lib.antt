@@ -1,0 +1,3 @@
+pub mod Hkdf
+pub mod Calls
+pub mod Inside

@@ -1,0 +1,114 @@
+// Bytes of any length from a key, block after block.
+ghost use mathlib.Core.Path.{_≡_};
+ghost use mathlib.Core.Bool.{true};
+ghost use mathlib.Core.List.{[], _∷_, _++_};
+ghost use Prim.Native.Nat.{_≤_};
+ghost use lib.ListN.{length};
+ghost use Rattle.octets.specs.Copy.{over};
+ghost use Rattle.octets.specs.Zeros.{zerosTo};
+ghost use Rattle.algorithm.specs.Hashes.{names, hashOf, sizeOf};
+ghost use Rattle.hmac.specs.Keyed.{HeldKeyed, freshKeyed, afterKeyed, fullTag};
+ghost use Rattle.hkdf.specs.Hkdf.{expandOf};
+ghost use Rattle.hkdf.specs.Calls.{ExpandOutcome};
+ghost use Rattle.hkdf.specs.Inside.{Keyable, Expandable, Stretchable};
+use algorithm::Named;
+use hmac::Keyed;
+
+// The most bytes of info.
+const MOST_INFO: usize = 1024;
+
+// The start under the key, made once for all blocks.
+fn start(number: u32, prk: &[u8]) -> Keyed
+    requires { ⌜ Keyable number (now prk) ⌝ }
+    ensures { λ r. ⌜ r ≡ freshKeyed (hashOf number) (now (prk .entry)) ⌝ }
+{
+    let started = hmac::start(number, prk);
+    started.keyed
+}
+
+// The full tag over the beginning of a buffer.
+fn tag_into(keyed: Keyed, out: &mut [u8])
+    requires { ⌜ HeldKeyed keyed ⌝ }
+    requires { ⌜ sizeOf (keyed .hash) ≤ length (now out) ⌝ }
+    ensures { λ _. ⌜ now (out .exit) ≡ over (fullTag keyed) (now (out .entry)) ⌝ }
+{
+    let hash = keyed.hash;
+    let size = algorithm::digest_size(hash);
+    hmac::tag(keyed, size, &mut out[..size]);
+}
+
+// One block, the tag of the last one, info and the counter, with zeros behind it.
+fn stretch(keyed: Keyed, last: &[u8], info: &[u8], i: u8) -> [u8; 64]
+    requires { ⌜ Stretchable keyed (now last) (now info) ⌝ }
+    ensures { λ r. ⌜ r ≡ zerosTo 64 (fullTag (afterKeyed keyed (now (last .entry) ++ (now (info .entry) ++ (i ∷ []))))) ⌝ }
+{
+    let counter = [i];
+    let fed_last = hmac::update(keyed, last);
+    let after_last = fed_last.keyed;
+    let fed_info = hmac::update(after_last, info);
+    let after_info = fed_info.keyed;
+    let fed_counter = hmac::update(after_info, &counter);
+    let after_counter = fed_counter.keyed;
+    let mut out = [0u8; 64];
+    tag_into(after_counter, &mut out);
+    out
+}
+
+// The output, block after block, the last one cut. Of the block before the first none counts; the counter is raised before each
+// block, since it has no room beyond the last.
+fn fill(number: u32, prk: &[u8], info: &[u8], out: &mut [u8])
+    requires { ⌜ Expandable number (now prk) (now info) (now out) ⌝ }
+    ensures { λ _. ⌜ now (out .exit) ≡ expandOf (hashOf number) (now (prk .entry)) (now (info .entry)) (length (now (out .entry))) ⌝ }
+{
+    let keyed = start(number, prk);
+    let hash = keyed.hash;
+    let size = algorithm::digest_size(hash);
+    let mut block = [0u8; 64];
+    let mut filled = 0;
+    let mut at = 0;
+    let mut i: u8 = 0;
+    while at < out.len() {
+        let next = i + 1;
+        block = stretch(keyed, &block[..filled], info, next);
+        filled = size;
+        i = next;
+        let rest = &mut out[at..];
+        octets::copy_prefix(&block[..size], rest);
+        at += size;
+    }
+}
+
+// The checks of the lengths in their order, then the work.
+fn expand_for(number: u32, size: usize, prk: &[u8], info: &[u8], out: &mut [u8]) -> u32
+    requires { ⌜ names number ≡ true ⌝ }
+    requires { ⌜ size ≡ sizeOf (hashOf number) ⌝ }
+    ensures { λ r. ⌜ ExpandOutcome number (now (prk .entry)) (now (info .entry)) (now (out .entry)) r (now (out .exit)) ⌝ }
+{
+    if algorithm::MOST_BYTES < prk.len() as u64 {
+        return algorithm::KEY_TOO_LONG;
+    }
+    if prk.len() < size {
+        return algorithm::PRK_TOO_SHORT;
+    }
+    if MOST_INFO < info.len() {
+        return algorithm::INFO_TOO_LONG;
+    }
+    if 255 * size < out.len() {
+        return algorithm::OUTPUT_TOO_LONG;
+    }
+    fill(number, prk, info, out);
+    algorithm::DONE
+}
+
+// As many bytes as the output has, from a key and info; 2 where the number names no hash, 3 where the key is too long, 7 where it is
+// shorter than a digest, 8 where info is too long, 9 where the output is longer than 255 digests.
+pub fn expand(number: u32, prk: &[u8], info: &[u8], out: &mut [u8]) -> u32
+    ensures { λ r. ⌜ ExpandOutcome number (now (prk .entry)) (now (info .entry)) (now (out .entry)) r (now (out .exit)) ⌝ }
+{
+    let named = algorithm::which(number);
+    let Named::Is(hash) = named else {
+        return algorithm::UNKNOWN_HASH;
+    };
+    let size = algorithm::digest_size(hash);
+    expand_for(number, size, prk, info, out)
+}
