@@ -1,5 +1,6 @@
 -- Laws of the calls, for the layers above and for this crate's proofs: what each answers once its checks are known. Assumes nothing.
 use mathlib.Core.Path.{_≡_}
+use mathlib.Core.Logic.{_↔_}
 use mathlib.Core.Bool.{true, false}
 use mathlib.Core.List.{List}
 use Prim.Native.Nat.{ℕ, _-_, _*_, _≤_, _<_}
@@ -8,8 +9,10 @@ use borrow.Author.Tests.{le-leb, lt-leb, eq-eqb, ne-eqb}
 use Rattle.algorithm.specs.Hashes.{names, hashOf, blockOf, sizeOf}
 use Rattle.algorithm.specs.Refusals.{done, unknownHash, keyTooLong, messageTooLong, wrongSize, prkTooShort, infoTooLong, outputTooLong, mostBytes}
 use Rattle.hmac.specs.Calls.Laws.{written}
+use Rattle.algorithm.specs.Checks.{Fail}
+use Rattle.algorithm.specs.Checks.Laws.{exactly}
 use Rattle.hkdf.specs.Hkdf.{extractOf, expandOf}
-use Rattle.hkdf.specs.Calls.{mostInfo, extractAnswer, expandAnswer}
+use Rattle.hkdf.specs.Calls.{expandChecks, extractChecks, mostInfo, extractAnswer, expandAnswer}
 
 module _ (n : ℕ) (salt ikm out : List ℕ) where
   pub extract-unknown : names n ≡ false → extractAnswer n salt ikm out ≡ written unknownHash out
@@ -69,3 +72,13 @@ module _ (n : ℕ) (prk info out : List ℕ) where
           unfolding expandAnswer
           expand-accepted o =
               rw (h, le-leb (length prk) mostBytes k, le-leb (sizeOf (hashOf n)) (length prk) l, le-leb (length info) mostInfo i, le-leb (length out) (255 * sizeOf (hashOf n)) o)
+
+-- each number comes back exactly when its check fails and every earlier one passes
+module _ (r : ℕ) (refusal : r ≡ done → ⊥) where
+  pub extract-exactly : (n : ℕ) (salt ikm out : List ℕ) → extractAnswer n salt ikm out .0 ≡ r ↔ Fail (extractChecks n salt ikm out) r
+  unfolding extractAnswer
+  extract-exactly n salt ikm out = exactly (extractChecks n salt ikm out) r refusal
+
+  pub expand-exactly : (n : ℕ) (prk info out : List ℕ) → expandAnswer n prk info out .0 ≡ r ↔ Fail (expandChecks n prk info out) r
+  unfolding expandAnswer
+  expand-exactly n prk info out = exactly (expandChecks n prk info out) r refusal
