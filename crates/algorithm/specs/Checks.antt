@@ -25,6 +25,10 @@ firstFailing (c ∷ cs) = cond (c .passes) (firstFailing cs) (c .number)
 abbrev pub decided {ℓ} : {A : Type ℓ} → List Check → A → A → A
 decided cs work given = cond (eqb (firstFailing cs) done) work given
 
+-- a number and an output
+abbrev pub written : ℕ → List ℕ → ℕ × List ℕ
+written n out = (n, out)
+
 -- the number and the output of a call
 abbrev pub answered : List Check → List ℕ → List ℕ → ℕ × List ℕ
 answered cs work given = (firstFailing cs, decided cs work given)

@@ -1,3 +1,4 @@
 pub mod Hashes
 pub mod Refusals
 pub mod Checks
+pub mod Pieces

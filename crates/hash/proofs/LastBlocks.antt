@@ -25,7 +25,7 @@ use Rattle.hash.specs.declared.state.State.{State}
 
 -- the sizes that the code computes with
 pub word-most : (h : Hash) → wordSize (describe h .core) ≤ 8
-unfolding wordSize describe narrow wide
+unfolding describe narrow wide
 word-most Sha256 = omega arith
 word-most Sha512 = omega arith
 

@@ -5,10 +5,11 @@ pub mod Laws
 use mathlib.Core.Path.{_≡_}
 use mathlib.Core.Bool.{Bool, true, _&&_}
 use mathlib.Core.List.{List, _++_}
-use Prim.Native.Nat.{ℕ, _+_, _-_, _%_, _^_}
+use Prim.Native.Nat.{ℕ, _+_, _%_, _^_}
 use lib.Dec.{leb, ltb}
 use lib.ListN.{length, take, drop, replicate}
 use Rattle.octets.specs.Every.{every, allZero}
+use Rattle.octets.specs.Zeros.{zerosTo}
 use Rattle.algorithm.specs.declared.hashes.Hash.{Hash}
 use Rattle.algorithm.specs.declared.hashes.Hash.the-variants.{Sha256}
 use Rattle.algorithm.specs.Hashes.{blockOf}
@@ -39,7 +40,7 @@ wordsOf h ws l = wordsAfter (blockOf h) (step (describe h .core)) ws l
 
 -- bytes with zeros behind them, as they wait
 abbrev pub placed : List ℕ → List ℕ
-placed l = l ++ replicate (places - length l) 0
+placed = zerosTo places
 
 -- the test of a sound state
 pub soundOf : State → Bool

@@ -14,7 +14,8 @@ use Rattle.algorithm.specs.Refusals.{done, mostBytes}
 use Rattle.hmac.specs.Hmac.Laws.{tag-full}
 use Rattle.hmac.specs.Keyed.{freshKeyed, afterKeyed}
 use Rattle.hmac.specs.Calls.{allowed, tagMessageAnswer}
-use Rattle.hmac.specs.Calls.Laws.{written, message-tag, tag-wrong-size, tag-accepted, tag-message-key, tag-message-too-long}
+use Rattle.algorithm.specs.Checks.{written}
+use Rattle.hmac.specs.Calls.Laws.{message-tag, tag-wrong-size, tag-accepted, tag-message-key, tag-message-too-long}
 use Rattle.hmac.specs.Pieces.Laws.{fresh-message}
 use Rattle.hmac.specs.declared.keyed.Keyed.{Keyed}
 use Rattle.hkdf.specs.Hkdf.{saltOf}

@@ -3,7 +3,7 @@
 use mathlib.Core.Path.{_≡_, refl, sym, ap, subst, _∙_}
 use mathlib.Core.Bool.{Bool, true, false}
 use mathlib.Core.List.{List}
-use Prim.Native.Nat.{ℕ, _+_, _-_, _≤_}
+use Prim.Native.Nat.{ℕ, _+_, _≤_}
 use native.Mathlib.Decide.{decLe}
 use native.Mathlib.Omega.{arith}
 use lib.ListN.{length}
@@ -13,7 +13,8 @@ use Rattle.algorithm.specs.Refusals.{done, unknownHash, keyTooLong, mostBytes}
 use Rattle.hmac.specs.Keyed.{freshKeyed, zeroKeyed}
 use Rattle.hmac.specs.Keyed.Laws.{keyed-held, keyed-count}
 use Rattle.hmac.specs.Calls.{startOf, updateOf, tagAnswer, verifyAnswer, tagMessageAnswer, verifyMessageAnswer}
-use Rattle.hmac.specs.Calls.Laws.{started, fed, written, message-tag, message-verify, start-unknown, start-too-long, start-accepted, update-too-long, update-accepted, tag-message-unknown, tag-message-key, tag-message-too-long, verify-message-unknown, verify-message-key, verify-message-too-long}
+use Rattle.algorithm.specs.Checks.{written}
+use Rattle.hmac.specs.Calls.Laws.{started, fed, message-tag, message-verify, start-unknown, start-too-long, start-accepted, update-too-long, update-accepted, tag-message-unknown, tag-message-key, tag-message-too-long, verify-message-unknown, verify-message-key, verify-message-too-long}
 use Rattle.hmac.specs.Pieces.Laws.{fresh-message}
 use Rattle.hmac.specs.Inside.{Taken}
 use Rattle.hmac.specs.Inside.Taken.{whole, refused}

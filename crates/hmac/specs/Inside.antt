@@ -7,7 +7,8 @@ use Rattle.algorithm.specs.declared.hashes.Hash.{Hash}
 use Rattle.algorithm.specs.Hashes.{names, hashOf}
 use Rattle.algorithm.specs.Refusals.{done}
 use Rattle.hmac.specs.Calls.{tagMessageAnswer, verifyMessageAnswer}
-use Rattle.hmac.specs.Calls.Laws.{written, Message}
+use Rattle.algorithm.specs.Checks.{written}
+use Rattle.hmac.specs.Keyed.{Message}
 use Rattle.hmac.specs.declared.keyed.Fed.{Fed}
 
 -- a number that names this hash

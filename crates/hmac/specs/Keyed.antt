@@ -5,15 +5,17 @@ pub mod Laws
 use mathlib.Core.Path.{_≡_}
 use mathlib.Core.Bool.{Bool, true, _&&_}
 use mathlib.Core.List.{List}
-use Prim.Native.Nat.{ℕ}
+use Prim.Native.Nat.{ℕ, _-_, _≤_}
 use lib.Dec.{leb}
 use lib.ListN.{length, replicate}
 use Rattle.algorithm.specs.declared.hashes.Hash.{Hash}
 use Rattle.algorithm.specs.declared.hashes.Hash.the-variants.{Sha256}
-use Rattle.algorithm.specs.Hashes.{blockOf}
+use Rattle.algorithm.specs.Hashes.{names, hashOf, blockOf}
+use Rattle.algorithm.specs.Refusals.{mostBytes}
 use Rattle.hash.specs.declared.state.State.{State}
 use Rattle.hash.specs.State.{places, soundOf, freshOf, afterOf, endOf}
 use Rattle.hmac.specs.Form.{innerPad, outerPad}
+use Rattle.hmac.specs.Hmac.{hmacOf}
 use Rattle.hmac.specs.declared.keyed.Keyed.{Keyed}
 
 -- the inner hash at work, and the outer one, which has taken its block
@@ -53,3 +55,12 @@ afterKeyed k m = joined (afterOf (innerOf k) m) (k .outer)
 -- the full tag that a keyed state ends in
 pub fullTag : Keyed → List ℕ
 fullTag k = endOf (afterOf (outerOf k) (endOf (innerOf k)))
+
+-- a keyed state that has taken exactly a message
+pub record Message (k : Keyed) (n : ℕ) (key m : List ℕ) : Type 0 where
+  pub named : names n ≡ true
+  pub key-fits : length key ≤ mostBytes
+  pub fits : length m ≤ mostBytes - blockOf (hashOf n)
+  pub sound : soundKeyed k ≡ true
+  pub hash : k .hash ≡ hashOf n
+  pub tag : fullTag k ≡ hmacOf (hashOf n) key m

@@ -59,6 +59,10 @@ module _ {ℓ} {A : Type ℓ} {cs : List Check} (work given : A) where
   pub decided-given : {n : ℕ} → (n ≡ done → ⊥) → Fail cs n → decided cs work given ≡ given
   decided-given z f = rw (ne-eqb (firstFailing cs) done (λ e. z (sym (fails-number f) ∙ e)))
 
+-- so a refused call leaves what was given
+pub refused-given {ℓ} : {A : Type ℓ} (cs : List Check) (work given : A) → (firstFailing cs ≡ done → ⊥) → decided cs work given ≡ given
+refused-given cs work given z = rw (ne-eqb (firstFailing cs) done z)
+
 -- no second outcome: what meets the equation of a call is one
 pub one-outcome {ℓ} : {A : Type ℓ} {a b outcome : A} → a ≡ outcome → b ≡ outcome → a ≡ b
 one-outcome e f = e ∙ sym f

@@ -1,21 +1,20 @@
 -- Laws of the calls, for the layers above and for this crate's proofs: what each answers once its checks are known. Assumes nothing.
-use mathlib.Core.Path.{_≡_, refl, sym, ap, subst}
+use mathlib.Core.Path.{_≡_, refl, sym, subst}
 use mathlib.Core.Logic.{_↔_}
 use mathlib.Core.Bool.{Bool, true, false}
 use mathlib.Core.List.{List}
 use Prim.Native.Nat.{ℕ, _+_, _≤_, _<_}
 use native.Mathlib.Omega.{arith}
-use native.Mathlib.Decide.{decLe}
 use lib.ListN.{length}
 use borrow.Author.Tests.{le-leb, lt-leb, eq-eqb, ne-eqb}
 use Rattle.algorithm.specs.Hashes.{names, hashOf, sizeOf}
 use Rattle.algorithm.specs.Refusals.{done, unknownHash, messageTooLong, wrongSize, stateNotSound, mostBytes}
 use Rattle.hash.specs.Digest.{digestOf}
 use Rattle.hash.specs.State.{soundOf, Held, freshOf, zeroState, afterOf, endOf}
-use Rattle.hash.specs.State.Laws.{fresh-held, zero-held, after-held}
-use Rattle.algorithm.specs.Checks.{Fail, Pass}
+use Rattle.hash.specs.State.Laws.{fresh-held, zero-held}
+use Rattle.algorithm.specs.Checks.{Fail, Pass, written}
 use Rattle.algorithm.specs.Checks.Refusing.{none, more}
-use Rattle.algorithm.specs.Checks.Laws.{exactly, exactly-done}
+use Rattle.algorithm.specs.Checks.Laws.{exactly, exactly-done, refused-given}
 use Rattle.hash.specs.Calls.{startChecks, updateChecks, finishChecks, digestChecks, startOf, updateOf, finishOf, digestAnswer}
 use Rattle.hash.specs.declared.state.State.{State}
 use Rattle.hash.specs.declared.state.Started.{Started}
@@ -27,9 +26,6 @@ fed n s = record { number = n; state = s }
 
 abbrev pub started : ℕ → State → Started
 started n s = record { number = n; state = s }
-
-abbrev pub written : ℕ → List ℕ → ℕ × List ℕ
-written n out = (n, out)
 
 module _ (n : ℕ) where
   pub start-accepted : names n ≡ true → startOf n ≡ started done (freshOf (hashOf n))
@@ -52,6 +48,11 @@ module _ (s : State) (p : List ℕ) where
   pub update-accepted : soundOf s ≡ true → s .count + length p ≤ mostBytes → updateOf s p ≡ fed done (afterOf s p)
   unfolding updateOf
   update-accepted h l = rw (h, le-leb (s .count + length p) mostBytes l)
+
+  -- a refused piece hands the given state back
+  pub refused-same : (updateOf s p .number ≡ done → ⊥) → updateOf s p .state ≡ s
+  unfolding updateOf
+  refused-same z = refused-given (updateChecks s p) (afterOf s p) s z
 
 module _ (s : State) (out : List ℕ) where
   pub finish-not-sound : soundOf s ≡ false → finishOf s out ≡ written stateNotSound out
@@ -125,32 +126,3 @@ start-held n = by-case (names n) refl
     by-case : (b : Bool) → names n ≡ b → Held (startOf n .state)
     by-case true h = subst (λ (r : Started). Held (r .state)) (sym (start-accepted n h)) (fresh-held (hashOf n))
     by-case false h = subst (λ (r : Started). Held (r .state)) (sym (start-refused n h)) zero-held
-
--- what becomes of a piece
-pub data Fate (s : State) (p : List ℕ) : Type 0 where
-  taken : updateOf s p ≡ fed done (afterOf s p) → s .count + length p ≤ mostBytes → Fate s p
-  refused : (n : ℕ) → (n ≡ done → ⊥) → updateOf s p ≡ fed n s → Fate s p
-
-pub fate : (s : State) (p : List ℕ) → Fate s p
-fate s p = by-case (soundOf s) refl
-  where
-    by-case : (b : Bool) → soundOf s ≡ b → Fate s p
-    by-case false h = refused stateNotSound (λ e. omega arith) (update-not-sound s p h)
-    by-case true h = elim (decLe (s .count + length p) mostBytes) [
-      | yes l ↦ taken (update-accepted s p h l) l
-      | no l ↦ refused messageTooLong (λ e. omega arith) (update-too-long s p h (omega arith))
-    ]
-
--- a refused piece hands the given state back
-pub refused-same : (s : State) (p : List ℕ) → (updateOf s p .number ≡ done → ⊥) → updateOf s p .state ≡ s
-refused-same s p ne = elim (fate s p) [
-  | taken e l ↦ absurd (ne (ap (λ (r : Fed). r .number) e))
-  | refused n z e ↦ ap (λ (r : Fed). r .state) e
-]
-
--- a piece keeps a sound state sound, taken or refused
-pub update-held : (s : State) (p : List ℕ) → Held s → Held (updateOf s p .state)
-update-held s p h = elim (fate s p) [
-  | taken e l ↦ subst (λ (r : Fed). Held (r .state)) (sym e) (after-held s p h l)
-  | refused n z e ↦ subst (λ (r : Fed). Held (r .state)) (sym e) h
-]

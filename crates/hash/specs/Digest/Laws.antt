@@ -30,7 +30,7 @@ kept-is Sha256 = refl
 kept-is Sha512 = refl
 
 pub size-is : (h : Hash) → 8 * wordSize (describe h .core) ≡ sizeOf h
-unfolding wordSize describe narrow wide
+unfolding describe narrow wide
 size-is Sha256 = refl
 size-is Sha512 = refl
 

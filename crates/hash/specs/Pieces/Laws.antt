@@ -2,84 +2,69 @@
 -- Assumes nothing.
 use mathlib.Core.Path.{_≡_, refl, sym, ap, _∙_}
 use mathlib.Core.Bool.{Bool, true, false, cond}
-use mathlib.Core.List.{List, [], _∷_, _++_, append-nil, flatten}
+use mathlib.Core.List.{List, [], _∷_, _++_, append-nil}
 use Prim.Native.Nat.{ℕ, _+_, _≤_}
 use native.Mathlib.Nat.{zero-add}
 use native.Mathlib.Omega.{arith}
 use native.Mathlib.Decide.{ℕ-discrete, decLe}
 use lib.Dec.{eqb}
-use lib.ListN.{length, length-append}
-use borrow.Author.Tests.{ne-eqb}
+use lib.ListN.{length}
 use Rattle.algorithm.specs.declared.hashes.Hash.{Hash}
 use Rattle.algorithm.specs.Hashes.{names, hashOf, sizeOf}
 use Rattle.algorithm.specs.Refusals.{done, unknownHash, mostBytes}
 use Rattle.hash.specs.State.{soundOf, Held, freshOf, afterOf, endOf}
 use Rattle.hash.specs.State.Laws.{after-nothing, after-append, after-held, after-hash, after-count, fresh-hash, fresh-count, sound-count, end-fresh}
 use Rattle.hash.specs.Calls.{startOf, updateOf, finishOf, digestAnswer}
-use Rattle.hash.specs.Calls.Laws.{fate, fed, written, start-accepted, start-refused, start-held, update-accepted, update-too-long, update-held, finish-accepted, finish-wrong-size, digest-unknown, digest-too-long, digest-accepted, digest-wrong-size}
-use Rattle.hash.specs.Calls.Laws.Fate.{taken, refused}
-use Rattle.hash.specs.Pieces.{afterAll, takenOf}
+use Rattle.algorithm.specs.Checks.{written}
+use Rattle.hash.specs.Calls.Laws.{start-accepted, start-refused, start-held, update-accepted, update-too-long, finish-accepted, finish-wrong-size, digest-unknown, digest-too-long, digest-accepted, digest-wrong-size}
+use Rattle.algorithm.specs.Pieces.{afterAll, takenOf}
+use Rattle.algorithm.specs.Pieces.Laws.{Taking, after-all, all-held}
+use Rattle.hash.specs.Pieces.{given}
 use Rattle.hash.specs.declared.state.State.{State}
 use Rattle.hash.specs.declared.state.Started.{Started}
 use Rattle.hash.specs.declared.state.Fed.{Fed}
 
--- after any pieces, refused ones among them, the state is the definition's for the bytes taken
-pub after-all : (ps : List (List ℕ)) (s : State) → Held s → afterAll s ps ≡ afterOf s (takenOf s ps)
-unfolding afterAll takenOf
-after-all [] s h = sym (after-nothing s h)
-after-all (p ∷ ps) s h = elim (fate s p) [
-  | taken e l ↦ rw e (after-all ps (afterOf s p) (after-held s p h l) ∙ after-append s p (h .wide) (takenOf (afterOf s p) ps))
-  | refused n z e ↦ rw (e, ne-eqb n done z) (after-all ps s h)
-]
-
--- and it is sound
-pub all-held : (ps : List (List ℕ)) (s : State) → Held s → Held (afterAll s ps)
-unfolding afterAll
-all-held [] s h = h
-all-held (p ∷ ps) s h = all-held ps (updateOf s p .state) (update-held s p h)
-
--- pieces that fit the limit together are all taken
-pub all-taken : (ps : List (List ℕ)) (s : State) → Held s → s .count + length (flatten ps) ≤ mostBytes → takenOf s ps ≡ flatten ps
-unfolding takenOf flatten
-all-taken [] s h l = refl
-all-taken (p ∷ ps) s h l =
-    let n : length (p ++ flatten ps) ≡ length p + length (flatten ps) = length-append p (flatten ps) in
-    let f : s .count + length p ≤ mostBytes = omega arith in
-    let e : updateOf s p ≡ fed done (afterOf s p) = update-accepted s p (h .sound) f in
-    let c : afterOf s p .count ≡ s .count + length p = after-count s p in
-    rw e (ap (λ (r : List ℕ). p ++ r) (all-taken ps (afterOf s p) (after-held s p h f) (omega arith)))
-
--- so bytes cut anywhere lead to one state
-pub cut-anywhere : (ps qs : List (List ℕ)) (s : State) → Held s → flatten ps ≡ flatten qs → s .count + length (flatten ps) ≤ mostBytes
-    → afterAll s ps ≡ afterAll s qs
-cut-anywhere ps qs s h e l =
-    after-all ps s h
-    ∙ ap (afterOf s) (all-taken ps s h l ∙ e ∙ sym (all-taken qs s h (rw e at l)))
-    ∙ sym (after-all qs s h)
+-- what the laws of a run need to know of a state
+abbrev pub taking : Taking State
+taking = record {
+  update = given;
+  after = afterOf;
+  count = λ s. s .count;
+  Held = Held;
+  taken = λ s p h l. ap both (update-accepted s p (h .sound) l);
+  too-long = λ s p h l. ap both (update-too-long s p (h .sound) l);
+  after-nothing = after-nothing;
+  after-append = λ s p q h. after-append s p (h .wide) q;
+  after-count = after-count;
+  after-held = after-held;
+}
+  where
+    both : Fed → ℕ × State
+    both r = (r .number, r .state)
 
 -- from an accepted start, after any pieces, finish answers what the one-piece call answers for the bytes taken
 pub pieces-finish : (n : ℕ) (ps : List (List ℕ)) (out : List ℕ) → names n ≡ true
-    → finishOf (afterAll (startOf n .state) ps) out ≡ digestAnswer n (takenOf (startOf n .state) ps) out
+    → finishOf (afterAll given (startOf n .state) ps) out ≡ digestAnswer n (takenOf given (startOf n .state) ps) out
 pieces-finish n ps out named =
     let h : Hash = hashOf n in
     let s : State = startOf n .state in
-    let m : List ℕ = takenOf s ps in
+    let m : List ℕ = takenOf given s ps in
     let f : s ≡ freshOf h = ap (λ (r : Started). r .state) (start-accepted n named) in
-    let held : Held (afterAll s ps) = all-held ps s (start-held n) in
-    let e : afterAll s ps ≡ afterOf (freshOf h) m = after-all ps s (start-held n) ∙ ap (λ (t : State). afterOf t m) f in
-    let hash : afterAll s ps .hash ≡ h = ap (λ (t : State). t .hash) e ∙ after-hash (freshOf h) m ∙ fresh-hash h in
-    let count : afterAll s ps .count ≡ length m =
+    let held : Held (afterAll given s ps) = all-held taking ps s (start-held n) in
+    let e : afterAll given s ps ≡ afterOf (freshOf h) m = after-all taking ps s (start-held n) ∙ ap (λ (t : State). afterOf t m) f in
+    let hash : afterAll given s ps .hash ≡ h = ap (λ (t : State). t .hash) e ∙ after-hash (freshOf h) m ∙ fresh-hash h in
+    let count : afterAll given s ps .count ≡ length m =
     ap (λ (t : State). t .count) e ∙ after-count (freshOf h) m ∙ ap (λ (k : ℕ). k + length m) (fresh-count h) ∙ zero-add (length m)
     in
-    let fits : length m ≤ mostBytes = omega (arith, sound-count (afterAll s ps) (held .sound)) in
-    let size : sizeOf (afterAll s ps .hash) ≡ sizeOf h = ap sizeOf hash in
+    let fits : length m ≤ mostBytes = omega (arith, sound-count (afterAll given s ps) (held .sound)) in
+    let size : sizeOf (afterAll given s ps .hash) ≡ sizeOf h = ap sizeOf hash in
     elim (ℕ-discrete (length out) (sizeOf h)) [
       | yes l ↦
-          finish-accepted (afterAll s ps) out (held .sound) (l ∙ sym size)
+          finish-accepted (afterAll given s ps) out (held .sound) (l ∙ sym size)
           ∙ ap (written done) (ap endOf e ∙ end-fresh h m)
           ∙ sym (digest-accepted n m out named fits l)
       | no l ↦
-          finish-wrong-size (afterAll s ps) out (held .sound) (λ q. l (q ∙ size))
+          finish-wrong-size (afterAll given s ps) out (held .sound) (λ q. l (q ∙ size))
           ∙ sym (digest-wrong-size n m out named fits l)
     ]
 

@@ -21,7 +21,7 @@ use Rattle.hash.specs.Table.{first64, first32, upper}
 use Rattle.hash.specs.Description.{describe, narrow, wide}
 use Rattle.hash.specs.Blocks.{wholeBlocks, leftOver, wordsAfter}
 use Rattle.hash.specs.Blocks.Laws.{left-length, left-short, left-append, words-short, words-append}
-use Rattle.hash.specs.Sha2.{step, padding, blocks, keep}
+use Rattle.hash.specs.Sha2.{step, padding, keep}
 use Rattle.hash.specs.Sha2.Laws.{step-fits}
 use Rattle.hash.specs.Digest.{digestOf, blocksOf}
 use Rattle.hash.specs.Digest.Laws.{block-is, first-length, fold-length, keep-length}

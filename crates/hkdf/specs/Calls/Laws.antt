@@ -8,7 +8,7 @@ use lib.ListN.{length}
 use borrow.Author.Tests.{le-leb, lt-leb, eq-eqb, ne-eqb}
 use Rattle.algorithm.specs.Hashes.{names, hashOf, blockOf, sizeOf}
 use Rattle.algorithm.specs.Refusals.{done, unknownHash, keyTooLong, messageTooLong, wrongSize, prkTooShort, infoTooLong, outputTooLong, mostBytes}
-use Rattle.hmac.specs.Calls.Laws.{written}
+use Rattle.algorithm.specs.Checks.{written}
 use Rattle.algorithm.specs.Checks.{Fail}
 use Rattle.algorithm.specs.Checks.Laws.{exactly}
 use Rattle.hkdf.specs.Hkdf.{extractOf, expandOf}

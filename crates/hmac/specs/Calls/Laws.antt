@@ -14,24 +14,21 @@ use Rattle.octets.specs.Same.Laws.{equal-tells}
 use Rattle.algorithm.specs.declared.hashes.Hash.{Hash}
 use Rattle.algorithm.specs.Hashes.{names, hashOf, blockOf, sizeOf, shortestOf}
 use Rattle.algorithm.specs.Refusals.{done, tagDiffers, unknownHash, keyTooLong, messageTooLong, tagLengthOutOfRange, wrongSize, stateNotSound, mostBytes}
-use Rattle.algorithm.specs.Checks.{Fail, check, firstFailing, answered}
-use Rattle.algorithm.specs.Checks.Laws.{exactly}
-use Rattle.hmac.specs.Hmac.{hmacOf, tagOf}
-use Rattle.hmac.specs.Keyed.{soundKeyed, freshKeyed, zeroKeyed, afterKeyed, fullTag}
+use Rattle.algorithm.specs.Checks.{Fail, written, check, firstFailing, answered}
+use Rattle.algorithm.specs.Checks.Laws.{exactly, refused-given}
+use Rattle.hmac.specs.Hmac.{tagOf}
+use Rattle.hmac.specs.Keyed.{Message, soundKeyed, freshKeyed, zeroKeyed, afterKeyed, fullTag}
 use Rattle.hmac.specs.Calls.{allowed, startChecks, updateChecks, tagChecks, verifyChecks, messageChecks, startOf, updateOf, tagAnswer, verifyAnswer, tagMessageAnswer, verifyMessageAnswer}
 use Rattle.hmac.specs.declared.keyed.Keyed.{Keyed}
 use Rattle.hmac.specs.declared.keyed.Started.{Started}
 use Rattle.hmac.specs.declared.keyed.Fed.{Fed}
 
--- an answer with a keyed state, and one with an output
+-- an answer with a keyed state
 abbrev pub started : ℕ → Keyed → Started
 started n k = record { number = n; keyed = k }
 
 abbrev pub fed : ℕ → Keyed → Fed
 fed n k = record { number = n; keyed = k }
-
-abbrev pub written : ℕ → List ℕ → ℕ × List ℕ
-written n out = (n, out)
 
 -- a tag length in its range, and one on either side of it
 module _ (h : Hash) (t : ℕ) where
@@ -73,6 +70,11 @@ module _ (k : Keyed) (p : List ℕ) where
   unfolding updateOf
   update-accepted h l = rw (h, le-leb (k .count + length p) mostBytes l)
 
+  -- a refused piece hands the given state back
+  pub refused-same : (updateOf k p .number ≡ done → ⊥) → updateOf k p .keyed ≡ k
+  unfolding updateOf
+  refused-same z = refused-given (updateChecks k p) (afterKeyed k p) k z
+
 module _ (k : Keyed) (t : ℕ) (out : List ℕ) where
   pub tag-not-sound : soundKeyed k ≡ false → tagAnswer k t out ≡ written stateNotSound out
   unfolding tagAnswer
@@ -108,15 +110,7 @@ module _ (k : Keyed) (t : ℕ) (presented : List ℕ) where
   unfolding verifyAnswer
   verify-compared h a e = rw (h, a, eq-eqb (length presented) t e)
 
--- a keyed state that has taken exactly a message, so that tag and verify answer for it as the one-piece calls do
-pub record Message (k : Keyed) (n : ℕ) (key m : List ℕ) : Type 0 where
-  pub named : names n ≡ true
-  pub key-fits : length key ≤ mostBytes
-  pub fits : length m ≤ mostBytes - blockOf (hashOf n)
-  pub sound : soundKeyed k ≡ true
-  pub hash : k .hash ≡ hashOf n
-  pub tag : fullTag k ≡ hmacOf (hashOf n) key m
-
+-- a message that a keyed state has taken is tagged and compared as the one-piece calls do it
 module _ {k : Keyed} {n : ℕ} {key m : List ℕ} (M : Message k n key m) (t : ℕ) where
   pub message-tag : (out : List ℕ) → tagAnswer k t out ≡ tagMessageAnswer n key m t out
   unfolding tagAnswer tagMessageAnswer

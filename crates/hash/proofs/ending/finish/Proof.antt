@@ -12,7 +12,8 @@ use Rattle.hash.specs.Sha2.{spell, keep}
 use Rattle.hash.specs.State.{soundOf, endOf}
 use Rattle.hash.specs.State.Laws.{sound-count, sound-words}
 use Rattle.hash.specs.State.Open.{end-is}
-use Rattle.hash.specs.Calls.Laws.{written, finish-not-sound, finish-wrong-size, finish-accepted}
+use Rattle.algorithm.specs.Checks.{written}
+use Rattle.hash.specs.Calls.Laws.{finish-not-sound, finish-wrong-size, finish-accepted}
 use Rattle.hash.proofs.LastBlocks.{digest-words, keep-all}
 use Rattle.hash.proofs.ending.finish.Statement.{statement}
 use Rattle.hash.proofs.ending.finish.Tie as tie

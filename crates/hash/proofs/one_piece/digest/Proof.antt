@@ -6,7 +6,7 @@ use borrow.Author.Needs.{needs}
 use denote.Ref.{now}
 use Rattle.algorithm.specs.Refusals.{done}
 use Rattle.hash.specs.Calls.{startOf, updateOf, finishOf, digestAnswer}
-use Rattle.hash.specs.Calls.Laws.{written}
+use Rattle.algorithm.specs.Checks.{written}
 use Rattle.hash.specs.Pieces.Laws.{start-refuses, piece-refuses, end-answers}
 use Rattle.hash.specs.declared.state.Started.{Started}
 use Rattle.hash.specs.declared.state.Fed.{Fed}

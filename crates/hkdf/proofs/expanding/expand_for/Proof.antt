@@ -4,7 +4,7 @@ use native.Mathlib.Omega.{arith}
 use borrow.Author.Needs.{needs}
 use denote.Ref.{now}
 use Rattle.algorithm.specs.Refusals.{done}
-use Rattle.hmac.specs.Calls.Laws.{written}
+use Rattle.algorithm.specs.Checks.{written}
 use Rattle.hkdf.specs.Calls.Laws.{expand-prk-too-long, expand-prk-too-short, expand-info-too-long, expand-output-too-long, expand-accepted}
 use Rattle.hkdf.proofs.expanding.expand_for.Statement.{statement}
 use Rattle.hkdf.proofs.expanding.expand_for.Tie as tie

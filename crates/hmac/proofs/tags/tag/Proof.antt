@@ -14,7 +14,8 @@ use Rattle.hmac.specs.Keyed.{soundKeyed, HeldKeyed, fullTag}
 use Rattle.hmac.specs.Keyed.Laws.{full-length}
 use Rattle.hmac.specs.Calls.{allowed}
 use Rattle.octets.specs.Copy.{over}
-use Rattle.hmac.specs.Calls.Laws.{written, allowed-most, tag-not-sound, tag-out-of-range, tag-wrong-size, tag-accepted}
+use Rattle.algorithm.specs.Checks.{written}
+use Rattle.hmac.specs.Calls.Laws.{allowed-most, tag-not-sound, tag-out-of-range, tag-wrong-size, tag-accepted}
 use Rattle.hmac.proofs.Typed.{typed-held}
 use Rattle.octets.specs.Zeros.Laws.{over-buffer}
 use Rattle.hmac.proofs.tags.tag.Statement.{statement}
