@@ -1,18 +1,12 @@
-#!/usr/bin/env python3
-"""What the program crates/derive_vectors must write, by a second program that shares nothing with the crates.
+"""The HKDF part of tests/vectors.py.
 
-    python3 tests/derive_vectors.py            writes the expected output
-    python3 tests/derive_vectors.py --check    compares it with crates/derive_vectors/stdout
-
-HKDF is written here from RFC 5869 over the HMAC of tests/tag_vectors.py, and numbers and refusals from docs/PROTOCOL.md. Before it
-writes or compares anything the program holds itself to the keys that RFC 5869 prints and to Python's hmac module."""
+HKDF is written here from RFC 5869 over the HMAC of tests/tag_vectors.py, and numbers and refusals from docs/PROTOCOL.md. It is held
+to the keys that RFC 5869 prints and to Python's hmac module."""
 import hashlib
 import hmac
-import sys
 
-sys.dont_write_bytecode = True  # tests/ holds sources only
 import tag_vectors
-from vectors import HASHES, MOST_BYTES, UNTOUCHED, hold, write_or_check
+from hash_vectors import HASHES, MOST_BYTES, UNTOUCHED, hold
 
 MATERIAL = b"\x0b" * 22
 
@@ -68,6 +62,7 @@ def expand(number, key, info, size):
 
 
 def hold_to_others():
+    """The keys made here against RFC 5869's and the hmac module's."""
     for salt, material, info, length, prk, okm in CASES:
         hold(extract(1, salt, material, 32) == (0, bytes.fromhex(prk)), "a PRK is not RFC 5869's")
         hold(expand(1, bytes.fromhex(prk), info, length) == (0, bytes.fromhex(okm)), "an OKM is not RFC 5869's")
@@ -110,8 +105,3 @@ def lines():
             yield line("expand", expand(number, b"\x0b" * length, b"\x1f" * info, 50))
         for out in (size - 1, size + 1):
             yield line("extract", extract(number, b"salt", b"material", out))
-
-
-if __name__ == "__main__":
-    hold_to_others()
-    write_or_check("derive_vectors", __doc__, lines(), sys.argv[1:])

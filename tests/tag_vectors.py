@@ -1,19 +1,12 @@
-#!/usr/bin/env python3
-"""What the program crates/tag_vectors must write, by a second program that shares nothing with the crates.
+"""The HMAC part of tests/vectors.py.
 
-    python3 tests/tag_vectors.py            writes the expected output
-    python3 tests/tag_vectors.py --check    compares it with crates/tag_vectors/stdout
-
-HMAC is written here from FIPS 198-1 over the hashes of tests/vectors.py, and keyed states, numbers and refusals from
-docs/PROTOCOL.md. Before it writes or compares anything the program holds itself to the tags that RFC 4231 prints and to Python's
-hmac module."""
+HMAC is written here from FIPS 198-1 over the hashes of tests/hash_vectors.py, and keyed states, numbers and refusals from
+docs/PROTOCOL.md. It is held to the tags that RFC 4231 prints and to Python's hmac module."""
 import hashlib
 import hmac
-import sys
 
-sys.dont_write_bytecode = True  # tests/ holds sources only
-import vectors
-from vectors import HASHES, MOST_BYTES, UNTOUCHED, State, answer, hold
+import hash_vectors
+from hash_vectors import HASHES, MOST_BYTES, UNTOUCHED, State, answer, hold
 
 # The test cases of RFC 4231: key, message, the tag of SHA-256 and that of SHA-512. The fifth prints 16 bytes of each.
 CASES = [
@@ -63,7 +56,7 @@ def number_of(hash):
 
 
 def digest(number, message):
-    refusal, made = vectors.digest(number, message, HASHES[number].size)
+    refusal, made = hash_vectors.digest(number, message, HASHES[number].size)
     hold(refusal == 0, "a digest is refused")
     return made
 
@@ -102,9 +95,9 @@ class Keyed:
 
     def full(self):
         """The full tag of a sound one."""
-        _, inside = vectors.finish(self.inner, self.hash.size)
-        _, outer = vectors.update(State(self.hash, self.outer, self.hash.block, b""), inside)
-        return vectors.finish(outer, self.hash.size)[1]
+        _, inside = hash_vectors.finish(self.inner, self.hash.size)
+        _, outer = hash_vectors.update(State(self.hash, self.outer, self.hash.block, b""), inside)
+        return hash_vectors.finish(outer, self.hash.size)[1]
 
     def __str__(self):
         return f"HMAC-{self.inner}, outer words {' '.join(f'{x:016x}' for x in self.outer)}"
@@ -122,7 +115,7 @@ def start(number, key):
 def update(keyed, piece):
     if not keyed.sound():
         return 10, keyed
-    refusal, inner = vectors.update(keyed.inner, piece)
+    refusal, inner = hash_vectors.update(keyed.inner, piece)
     return refusal, Keyed(inner, keyed.outer)
 
 
@@ -173,8 +166,7 @@ def hold_to_library(number, key, message):
 
 
 def hold_to_others():
-    """This program against RFC 4231's tags and the hmac module's."""
-    vectors.hold_to_others()
+    """The tags made here against RFC 4231's and the hmac module's."""
     for number, hash in HASHES.items():
         for length in (0, 1, hash.block - 1, hash.block, hash.block + 1, 300):
             hold_to_library(number, pattern(length), MESSAGE)
@@ -385,8 +377,3 @@ def lines():
         yield from limit(number)
         yield from sizes(number)
         yield from comparison(number)
-
-
-if __name__ == "__main__":
-    hold_to_others()
-    vectors.write_or_check("tag_vectors", __doc__, lines(), sys.argv[1:])

@@ -1,10 +1,12 @@
-// States and messages made by hand.
+// States and keyed states made by hand, whether two are the same, and numbers that cases of both share.
 use algorithm::Hash;
 use algorithm::Named;
 use hash::State;
-ghost use mathlib.Core.Path.{_≡_};
-ghost use lib.ListN.{length};
+use hmac::Keyed;
 ghost use Prim.Native.Nat.{_<_};
+
+// Numbers that name a hash, and numbers that name none.
+pub(crate) const NUMBERS: [u32; 5] = [0, 1, 2, 3, 4294967295];
 
 // The hash that a number names, and SHA-256 where it names none.
 pub(crate) fn hash_of(number: u32) -> Hash {
@@ -12,17 +14,6 @@ pub(crate) fn hash_of(number: u32) -> Hash {
         Named::Is(hash) => hash,
         Named::Unknown => Hash::Sha256,
     }
-}
-
-// A fixed pattern: the byte at a place is the place modulo 251.
-pub(crate) fn pattern() -> [u8; 257]
-    ensures { λ r. ⌜ 257 ≡ length r ⌝ }
-{
-    let mut bytes = [0u8; 257];
-    for i in 0..257 {
-        bytes[i] = (i % 251) as u8;
-    }
-    bytes
 }
 
 // A state of zeros but for its count, its last word, and one waiting byte where the place is one of the 128.
@@ -91,4 +82,42 @@ pub(crate) fn same(a: State, b: State) -> bool {
         && number_of(hash) == number_of(hash_too)
         && same_words(words, words_too)
         && octets::same(&waiting, &waiting_too)
+}
+
+// The state inside a keyed state.
+pub(crate) fn inner(keyed: Keyed) -> State {
+    let hash = keyed.hash;
+    let words = keyed.words;
+    let waiting = keyed.waiting;
+    State {
+        hash,
+        words,
+        count: keyed.count,
+        waiting,
+    }
+}
+
+// A keyed state of a state and outer words.
+pub(crate) fn keyed(inner: State, outer: [u64; 8]) -> Keyed {
+    let hash = inner.hash;
+    let words = inner.words;
+    let waiting = inner.waiting;
+    Keyed {
+        hash,
+        words,
+        count: inner.count,
+        waiting,
+        outer,
+    }
+}
+
+pub(crate) fn same_keyed(a: Keyed, b: Keyed) -> bool {
+    let outer = a.outer;
+    let outer_too = b.outer;
+    same(inner(a), inner(b)) && same_words(outer, outer_too)
+}
+
+// One less, and zero for zero.
+pub(crate) fn before(n: usize) -> usize {
+    if n == 0 { 0 } else { n - 1 }
 }

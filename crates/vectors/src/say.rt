@@ -1,6 +1,8 @@
-// What the program writes: words, numbers, bytes and states.
+// What the program writes: words, numbers, bytes, states and what came back of a call.
+use crate::made;
 use algorithm::Hash;
 use hash::State;
+use hmac::Keyed;
 use libc::STDOUT_FILENO;
 
 pub(crate) fn text(words: &[u8]) {
@@ -35,8 +37,14 @@ pub(crate) fn hash(hash: Hash) {
     }
 }
 
-// A whole state.
-pub(crate) fn state(state: State) {
+// HMAC over a hash.
+pub(crate) fn hmac(over: Hash) {
+    text(b"HMAC-");
+    hash(over);
+}
+
+// A whole state but for the end of its line.
+fn fields(state: State) {
     let h = state.hash;
     let ws = state.words;
     let w = state.waiting;
@@ -47,5 +55,55 @@ pub(crate) fn state(state: State) {
     number(state.count);
     text(b", waiting ");
     hex(&w);
+}
+
+// A whole state.
+pub(crate) fn state(state: State) {
+    fields(state);
+    text(b"\n");
+}
+
+// A whole keyed state.
+pub(crate) fn keyed(keyed: Keyed) {
+    let outer = keyed.outer;
+    text(b"HMAC-");
+    fields(made::inner(keyed));
+    text(b", outer words");
+    words(outer);
+    text(b"\n");
+}
+
+pub(crate) fn soundness(sound: bool) {
+    if sound {
+        text(b"  sound\n");
+    } else {
+        text(b"  not sound\n");
+    }
+}
+
+// The number and the output of a call.
+pub(crate) fn answer(answered: u32, out: &[u8]) {
+    number(answered as u64);
+    text(b", ");
+    hex(out);
+    text(b"\n");
+}
+
+// The number that a piece got, and whether the state came back as it was.
+pub(crate) fn back(answered: u32, same: bool) {
+    number(answered as u64);
+    if same {
+        text(b", the same state");
+    } else {
+        text(b", another state");
+    }
+}
+
+// A line on a piece of some length, and what came back of it.
+pub(crate) fn update(length: usize, answered: u32, same: bool) {
+    text(b"  update, length ");
+    number(length as u64);
+    text(b": ");
+    back(answered, same);
     text(b"\n");
 }

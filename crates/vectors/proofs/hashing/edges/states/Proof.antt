@@ -1,0 +1,27 @@
+-- `vectors::hashing::edges::states` is safe and ends. Assumes nothing.
+use Prim.Native.Nat.{_-_, _≤_}
+use borrow.Author.Needs.{needs}
+use Rattle.vectors.proofs.hashing.edges.states.Statement.{statement}
+use Rattle.vectors.proofs.hashing.edges.states.Tie as tie
+
+abbrev Inv-loop : tie.InvT-loop
+Inv-loop number hash i₀ i = i ≤ 17
+
+abbrev μ-loop : tie.MeasureT-loop
+μ-loop number hash i₀ i = 17 - i
+
+pub states-spec : {M : Type 1} → statement M
+states-spec =
+    tie.close
+    (tie.spec
+    Inv-loop
+    μ-loop
+    (λ c κs. search needs)
+    (λ c. search needs)
+    (λ c. search needs)
+    (λ c. search needs)
+    (λ c κs. search needs)
+    (λ c. search needs)
+    (λ c. search needs)
+    (λ c. search needs)
+    (λ c. search needs))

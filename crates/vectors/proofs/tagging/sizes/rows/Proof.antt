@@ -1,0 +1,26 @@
+-- `vectors::tagging::sizes::rows` is safe and ends. Assumes nothing.
+use Prim.Native.Nat.{_-_, _≤_}
+use borrow.Author.Needs.{needs}
+use Rattle.vectors.proofs.tagging.sizes.rows.Statement.{statement}
+use Rattle.vectors.proofs.tagging.sizes.rows.Tie as tie
+
+abbrev Inv-loop : tie.InvT-loop
+Inv-loop number i₀ i = i ≤ 28
+
+abbrev μ-loop : tie.MeasureT-loop
+μ-loop number i₀ i = 28 - i
+
+pub rows-spec : {M : Type 1} → statement M
+rows-spec =
+    tie.close
+    (tie.spec
+    Inv-loop
+    μ-loop
+    (λ c. search needs)
+    (λ c. search needs)
+    (λ c. search needs)
+    (λ c κs. search needs)
+    (λ c. search needs)
+    (λ c. search needs)
+    (λ c. search needs)
+    (λ c. search needs))

@@ -1,0 +1,19 @@
+// HMAC on RFC 4231's cases and at its edges.
+mod calls;
+mod comparison;
+mod edges;
+mod inputs;
+mod published;
+mod sizes;
+
+pub(crate) fn run() {
+    edges::starts();
+    for number in 1..3 {
+        published::cases(number);
+        edges::keys(number);
+        edges::states(number);
+        edges::limit(number);
+        sizes::rows(number);
+        comparison::rows(number);
+    }
+}

@@ -1,0 +1,77 @@
+// The calls of HMAC, each with what it answers.
+use crate::made;
+use crate::say;
+use crate::tagging::inputs;
+use hmac::Keyed;
+
+fn tag_to(keyed: Keyed, tag_length: usize, out: &mut [u8]) {
+    let answered = hmac::tag(keyed, tag_length, out);
+    say::answer(answered, out);
+}
+
+fn tag_message_to(number: u32, key: &[u8], message: &[u8], tag_length: usize, out: &mut [u8]) {
+    let answered = hmac::tag_message(number, key, message, tag_length, out);
+    say::answer(answered, out);
+}
+
+// Into an output of some bytes, at most 66, that holds a5 everywhere.
+pub(crate) fn tag(keyed: Keyed, tag_length: usize, size: usize) {
+    let mut out = [0xa5u8; 66];
+    if size <= 66 {
+        tag_to(keyed, tag_length, &mut out[0..size]);
+    }
+}
+
+pub(crate) fn tag_message(number: u32, key: &[u8], message: &[u8], tag_length: usize, size: usize) {
+    let mut out = [0xa5u8; 66];
+    if size <= 66 {
+        tag_message_to(number, key, message, tag_length, &mut out[0..size]);
+    }
+}
+
+pub(crate) fn verify(keyed: Keyed, tag_length: usize, presented: &[u8]) {
+    let answered = hmac::verify(keyed, tag_length, presented);
+    say::number(answered as u64);
+    say::text(b"\n");
+}
+
+pub(crate) fn verify_message(
+    number: u32,
+    key: &[u8],
+    message: &[u8],
+    tag_length: usize,
+    presented: &[u8],
+) {
+    let answered = hmac::verify_message(number, key, message, tag_length, presented);
+    say::number(answered as u64);
+    say::text(b"\n");
+}
+
+// A line on a piece, and the keyed state that came back.
+pub(crate) fn update(keyed: Keyed, piece: &[u8]) -> Keyed {
+    let fed = hmac::update(keyed, piece);
+    let next = fed.keyed;
+    say::update(piece.len(), fed.number, made::same_keyed(keyed, next));
+    next
+}
+
+// A line on a presented tag of which so many first bytes are unchanged.
+fn presented(keyed: Keyed, tag_length: usize, kept: usize) {
+    let full = inputs::full_tag(keyed);
+    let bytes = inputs::agreeing(full, kept);
+    if tag_length <= 66 {
+        verify(keyed, tag_length, &bytes[0..tag_length]);
+    }
+}
+
+// Lines on the full tag of a keyed state, and on its comparison with itself and with one that differs in the last byte.
+pub(crate) fn tags(keyed: Keyed) {
+    let hash = keyed.hash;
+    let size = algorithm::digest_size(hash);
+    say::text(b"  tag: ");
+    tag(keyed, size, size);
+    say::text(b"  verify: ");
+    presented(keyed, size, size);
+    say::text(b"  verify with the last byte changed: ");
+    presented(keyed, size, made::before(size));
+}

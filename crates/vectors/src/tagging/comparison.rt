@@ -1,0 +1,89 @@
+// Presented tags: right ones, wrong ones, and those of another length.
+use crate::made;
+use crate::say;
+use crate::tagging::calls;
+use crate::tagging::inputs;
+use hmac::Keyed;
+
+// The length of the tag, how many bytes of the full tag (with a5 behind it) are presented, and how many first ones are unchanged.
+const ROWS: [[usize; 3]; 32] = [
+    [0, 0, 0],
+    [1, 1, 1],
+    [15, 15, 15],
+    [15, 16, 16],
+    [16, 0, 0],
+    [16, 1, 1],
+    [16, 15, 15],
+    [16, 16, 0],
+    [16, 16, 15],
+    [16, 16, 16],
+    [16, 17, 17],
+    [16, 32, 32],
+    [31, 31, 31],
+    [32, 0, 0],
+    [32, 16, 16],
+    [32, 31, 31],
+    [32, 32, 0],
+    [32, 32, 16],
+    [32, 32, 31],
+    [32, 32, 32],
+    [32, 33, 33],
+    [32, 64, 64],
+    [33, 32, 32],
+    [33, 33, 33],
+    [64, 32, 32],
+    [64, 63, 63],
+    [64, 64, 16],
+    [64, 64, 32],
+    [64, 64, 63],
+    [64, 64, 64],
+    [64, 65, 64],
+    [65, 65, 64],
+];
+
+pub(crate) fn rows(number: u32) {
+    for i in 0..32 {
+        row(number, ROWS[i]);
+    }
+}
+
+// Of the message "abc" under the key "Jefe".
+fn row(number: u32, row: [usize; 3]) {
+    let started = hmac::start(number, b"Jefe");
+    let fed = hmac::update(started.keyed, b"abc");
+    let full = inputs::full_tag(fed.keyed);
+    let kept = row[2];
+    let bytes = inputs::agreeing(full, kept);
+    let size = row[1];
+    let tag_length = row[0];
+    if size <= 66 {
+        head(number, tag_length, size, kept);
+        by_message(number, tag_length, &bytes[0..size]);
+        by_state(fed.keyed, tag_length, &bytes[0..size]);
+    }
+}
+
+fn head(number: u32, tag_length: usize, size: usize, kept: usize) {
+    say::hmac(made::hash_of(number));
+    say::text(b" of \"abc\", tag length ");
+    say::number(tag_length as u64);
+    say::text(b", presented ");
+    say::number(size as u64);
+    say::text(b" bytes, the first ");
+    say::number(kept as u64);
+    say::text(b" unchanged: ");
+}
+
+fn by_message(number: u32, tag_length: usize, presented: &[u8]) {
+    calls::verify_message(number, b"Jefe", b"abc", tag_length, presented);
+    say::text(b"  for hash 3: ");
+    calls::verify_message(3, b"Jefe", b"abc", tag_length, presented);
+}
+
+fn by_state(keyed: Keyed, tag_length: usize, presented: &[u8]) {
+    say::text(b"  by verify: ");
+    calls::verify(keyed, tag_length, presented);
+    let unsound = inputs::with_last(keyed, 1);
+    say::text(b"  by verify of a state that is not sound: ");
+    calls::verify(unsound, tag_length, presented);
+}

@@ -1,0 +1,131 @@
+// The edges that docs/PROTOCOL.md draws for HMAC: starts, keys, sound and unsound keyed states, the limit of bytes.
+use crate::made;
+use crate::say;
+use crate::tagging::calls;
+use crate::tagging::inputs;
+use algorithm::Hash;
+use hmac::Keyed;
+
+// A start for each number, and how what came back goes on.
+pub(crate) fn starts() {
+    for i in 0..5 {
+        start(made::NUMBERS[i]);
+    }
+}
+
+fn start(number: u32) {
+    say::text(b"start for hash ");
+    say::number(number as u64);
+    say::text(b": ");
+    let started = hmac::start(number, b"Jefe");
+    say::number(started.number as u64);
+    say::text(b", ");
+    say::keyed(started.keyed);
+    going_on(started.keyed);
+    in_one_call(number);
+}
+
+fn in_one_call(number: u32) {
+    say::text(b"  tag_message of \"abc\": ");
+    calls::tag_message(number, b"Jefe", b"abc", 32, 32);
+    let presented = [0u8; 32];
+    say::text(b"  verify_message of \"abc\" with zeros: ");
+    calls::verify_message(number, b"Jefe", b"abc", 32, &presented);
+}
+
+// What a keyed state answers, before and after a piece.
+fn going_on(keyed: Keyed) {
+    say::soundness(hmac::sound(keyed));
+    calls::tags(keyed);
+    let next = calls::update(keyed, b"abc");
+    calls::tags(next);
+}
+
+const KEYS: [usize; 9] = [0, 1, 63, 64, 65, 127, 128, 129, 300];
+
+// Keys of lengths around a block's.
+pub(crate) fn keys(number: u32) {
+    for i in 0..9 {
+        key_of(number, KEYS[i]);
+    }
+}
+
+fn key_of(number: u32, n: usize) {
+    let bytes = inputs::pattern();
+    if n <= 300 {
+        under(number, &bytes[0..n]);
+    }
+}
+
+fn under(number: u32, key: &[u8]) {
+    let hash = made::hash_of(number);
+    let size = algorithm::digest_size(hash);
+    say::hmac(hash);
+    say::text(b" of \"abc\" under a key of length ");
+    say::number(key.len() as u64);
+    say::text(b": ");
+    calls::tag_message(number, key, b"abc", size, size);
+    say::text(b"  start: ");
+    let started = hmac::start(number, key);
+    say::number(started.number as u64);
+    say::text(b", ");
+    say::keyed(started.keyed);
+    going_on(started.keyed);
+}
+
+// Keyed states that differ from zeros in the count, in one waiting byte (none at place 128), in the last word and in the last outer
+// word.
+const STATES: [[u64; 4]; 24] = [
+    [0, 128, 0, 0],
+    [63, 128, 0, 0],
+    [64, 128, 0, 0],
+    [127, 128, 0, 0],
+    [128, 128, 0, 0],
+    [64, 0, 0, 0],
+    [128, 0, 0, 0],
+    [130, 1, 0, 0],
+    [130, 2, 0, 0],
+    [130, 64, 0, 0],
+    [130, 127, 0, 0],
+    [191, 62, 0, 0],
+    [191, 63, 0, 0],
+    [255, 126, 0, 0],
+    [255, 127, 0, 0],
+    [128, 128, 4294967295, 0],
+    [128, 128, 4294967296, 0],
+    [128, 128, 18446744073709551615, 0],
+    [128, 128, 0, 4294967295],
+    [128, 128, 0, 4294967296],
+    [128, 128, 0, 18446744073709551615],
+    [4294967295, 128, 0, 0],
+    [4294967296, 128, 0, 0],
+    [18446744073709551615, 128, 0, 0],
+];
+
+pub(crate) fn states(number: u32) {
+    let hash = made::hash_of(number);
+    for i in 0..24 {
+        state(hash, STATES[i]);
+    }
+}
+
+fn state(hash: Hash, row: [u64; 4]) {
+    let inner = made::nearly_zero(hash, row[0], row[1] as usize, row[2]);
+    let keyed = made::keyed(inner, [0, 0, 0, 0, 0, 0, 0, row[3]]);
+    say::keyed(keyed);
+    going_on(keyed);
+}
+
+// One byte before the most that may be hashed, under outer words of its own, 9 to 16.
+pub(crate) fn limit(number: u32) {
+    let inner = made::own(made::hash_of(number), 4294967294);
+    let k0 = made::keyed(inner, [9, 10, 11, 12, 13, 14, 15, 16]);
+    say::keyed(k0);
+    let k1 = calls::update(k0, b"ab");
+    let k2 = calls::update(k1, b"a");
+    say::keyed(k2);
+    calls::tags(k2);
+    let k3 = calls::update(k2, b"a");
+    let k4 = calls::update(k3, b"");
+    calls::tags(k4);
+}
