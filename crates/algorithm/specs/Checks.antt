@@ -43,7 +43,7 @@ pub data Fail : List Check → ℕ → Type 0 where
   here : {c : Check} {cs : List Check} → c .passes ≡ false → Fail (c ∷ cs) (c .number)
   later : {c : Check} {cs : List Check} {n : ℕ} → c .passes ≡ true → Fail cs n → Fail (c ∷ cs) n
 
--- no check has the number of a call that is done
+-- no check that fails has the number of a call that is done
 pub data Refusing : List Check → Type 0 where
   none : Refusing []
-  more : {c : Check} {cs : List Check} → (c .number ≡ done → ⊥) → Refusing cs → Refusing (c ∷ cs)
+  more : {c : Check} {cs : List Check} → (c .passes ≡ false → c .number ≡ done → ⊥) → Refusing cs → Refusing (c ∷ cs)

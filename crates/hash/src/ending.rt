@@ -34,22 +34,6 @@ fn field_size(hash: Hash) -> usize
     }
 }
 
-// Eight bytes of a number, big-endian.
-fn eight_bytes(x: u64) -> [u8; 8]
-    ensures { λ r. ⌜ r ≡ bytes 8 x ⌝ }
-{
-    [
-        (x / 72057594037927936 % 256) as u8,
-        (x / 281474976710656 % 256) as u8,
-        (x / 1099511627776 % 256) as u8,
-        (x / 4294967296 % 256) as u8,
-        (x / 16777216 % 256) as u8,
-        (x / 65536 % 256) as u8,
-        (x / 256 % 256) as u8,
-        (x % 256) as u8,
-    ]
-}
-
 // Where the padded rest ends: at one block or at two.
 fn padded_end(hash: Hash, at: usize) -> usize
     requires { ⌜ at < blockOf hash ⌝ }
@@ -71,7 +55,7 @@ fn last_blocks(waiting: [u8; PLACES], at: usize, end: usize, bits: u64) -> [u8; 
     let mut last = [0u8; 2 * PLACES];
     crate::place::put_at(&mut last, 0, &waiting[..at]);
     last[at] = 0x80;
-    let field = eight_bytes(bits);
+    let field = octets::eight_bytes(bits);
     crate::place::put_at(&mut last, end - 8, &field);
     last
 }
@@ -99,7 +83,7 @@ fn put_words(out: &mut [u8], size: usize, words: [u64; 8])
     let from = 8 - size;
     let mut i: usize = 0;
     while i < 8 {
-        let word = eight_bytes(words[i]);
+        let word = octets::eight_bytes(words[i]);
         let at = i * size;
         crate::place::put_at(out, at, &word[from..]);
         i += 1;

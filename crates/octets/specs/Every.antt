@@ -3,7 +3,7 @@ pub mod Laws
 use mathlib.Core.Bool.{Bool, true, _&&_}
 use mathlib.Core.List.{List, [], _∷_}
 use Prim.Native.Nat.{ℕ}
-use lib.Dec.{eqb}
+use lib.Dec.{eqb, ltb}
 
 -- whether each element passes the test
 unfoldable pub every : (ℕ → Bool) → List ℕ → Bool
@@ -13,3 +13,7 @@ every p (x ∷ xs) = p x && every p xs
 -- whether each element is zero
 abbrev pub allZero : List ℕ → Bool
 allZero l = every (λ x. eqb x 0) l
+
+-- whether each element is a byte
+abbrev pub allBytes : List ℕ → Bool
+allBytes l = every (λ x. ltb x 256) l

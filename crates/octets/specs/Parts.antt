@@ -1,11 +1,11 @@
 -- Laws of parts of a list: read from a place, or lent from a place onward, written over and given back. Assumes nothing.
 use mathlib.Core.Path.{_≡_, sym, ap, _∙_}
-use mathlib.Core.List.{List, [], _++_, append-assoc, append-nil}
-use Prim.Native.Nat.{ℕ, _+_, _-_, _≤_}
+use mathlib.Core.List.{List, [], _∷_, _++_, append-assoc, append-nil}
+use Prim.Native.Nat.{ℕ, zero, suc, _+_, _-_, _≤_}
 use native.Mathlib.Nat.{zero-add, le-refl}
 use native.Mathlib.Omega.{arith}
 use lib.ListN.{length, take, drop, replicate, length-drop, length-replicate, drop-of-length-le, replicate-append-replicate}
-use lib.Seq.{take-all, take-length, take-at, drop-drop, paste, take-paste}
+use lib.Seq.{take-all, take-length, take-at, take-nil, take-take, drop-drop, paste, take-paste, slice}
 use borrow.Rule.Slice.PartMut.{putMid}
 use Rattle.octets.specs.Copy.{over}
 use Rattle.octets.specs.Copy.Laws.{over-short}
@@ -14,6 +14,21 @@ use Rattle.octets.specs.Every.Laws.{every-drop, zeros-all, all-zeros}
 -- a part from a place to the end, as a loan has it
 pub part-all : (l : List ℕ) (n at : ℕ) → length l ≡ n → take (n - at) (drop at l) ≡ drop at l
 part-all l n at e = take-all (n - at) (drop at l) (rw length-drop (omega arith))
+
+-- a part in the middle, as a loan has it
+pub part-slice : (f t : ℕ) (l : List ℕ) → take (t - f) (drop f l) ≡ slice f t l
+part-slice zero t l = let e : t - 0 ≡ t = omega arith in ap (λ (n : ℕ). take n l) e
+part-slice (suc f) zero l = let e : 0 - suc f ≡ 0 = omega arith in ap (λ (n : ℕ). take n (drop (suc f) l)) e
+part-slice (suc f) (suc t) [] = take-nil (suc t - suc f)
+part-slice (suc f) (suc t) (x ∷ l) = let e : suc t - suc f ≡ t - f = omega arith in ap (λ (n : ℕ). take n (drop f l)) e ∙ part-slice f t l
+
+-- so many elements from a place on, as part of those up to their end
+pub part-is : (at n : ℕ) (l : List ℕ) → drop at (take (at + n) l) ≡ take n (drop at l)
+part-is at n l = let e : (at + n) - at ≡ n = omega arith in sym (part-slice at (at + n) l) ∙ ap (λ (k : ℕ). take k (drop at l)) e
+
+-- and the same elements of the list up to any later place
+pub part-front : (top at n : ℕ) (l : List ℕ) → at + n ≤ top → take n (drop at (take top l)) ≡ take n (drop at l)
+part-front top at n l h = sym (part-is at n (take top l)) ∙ ap (drop at) (take-take (at + n) top l h) ∙ part-is at n l
 
 -- the part from `at` onward, lent to a copy of q and given back
 pub part-put : (l q y : List ℕ) (at n : ℕ) → n ≡ length l - at → at + length q ≤ length l → y ≡ over q (take n (drop at l))

@@ -1,8 +1,10 @@
-// Bytes: copying, comparing, and the test for zeros. Every function is total.
+// Bytes: copying, comparing, the test for zeros, and numbers as bytes. Every function is total.
 mod compare;
 mod copy;
+mod numbers;
 mod zero;
 
 pub use compare::same;
 pub use copy::copy_prefix;
+pub use numbers::eight_bytes;
 pub use zero::all_zero;

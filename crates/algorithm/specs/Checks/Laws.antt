@@ -3,7 +3,7 @@
 use mathlib.Core.Path.{_≡_, refl, sym, subst, _∙_}
 use mathlib.Core.Logic.{_↔_}
 use mathlib.Core.Bool.{Bool, true, false}
-use mathlib.Core.List.{List, [], _∷_}
+use mathlib.Core.List.{List, [], _∷_, _++_}
 use Prim.Native.Nat.{ℕ}
 use borrow.Author.Tests.{eq-eqb, ne-eqb}
 use Rattle.algorithm.specs.Refusals.{done}
@@ -44,12 +44,27 @@ pub done-passes : (cs : List Check) → Refusing cs → firstFailing cs ≡ done
 done-passes [] r e = all
 done-passes (c ∷ cs) (more z r) e = elim (test (c .passes)) [
   | yes t ↦ and t (done-passes cs r (rw t at e))
-  | no t ↦ absurd (z (rw t at e))
+  | no t ↦ absurd (z t (rw t at e))
 ]
 
 -- a call is done exactly when every check passes
 pub exactly-done : (cs : List Check) → Refusing cs → firstFailing cs ≡ done ↔ Pass cs
 exactly-done cs r = (done-passes cs r, passes-done)
+
+-- checks behind others: where one of the first fails the rest play no part, and where all of them pass the rest decide
+pub append-refuses : (a b : List Check) → (firstFailing a ≡ done → ⊥) → firstFailing (a ++ b) ≡ firstFailing a
+append-refuses [] b z = absurd (z refl)
+append-refuses (c ∷ a) b z = elim (test (c .passes)) [
+  | yes t ↦ rw t (append-refuses a b (λ e. z (rw t e)))
+  | no t ↦ rw t
+]
+
+pub append-passes : (a b : List Check) → firstFailing a ≡ done → Refusing a → firstFailing (a ++ b) ≡ firstFailing b
+append-passes [] b e r = refl
+append-passes (c ∷ a) b e (more z r) = elim (test (c .passes)) [
+  | yes t ↦ rw t (append-passes a b (rw t at e) r)
+  | no t ↦ absurd (z t (rw t at e))
+]
 
 -- where every check passes the work stands, and where one fails what was given
 module _ {ℓ} {A : Type ℓ} {cs : List Check} (work given : A) where

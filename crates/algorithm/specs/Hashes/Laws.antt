@@ -14,18 +14,19 @@ pub number-names : (h : Hash) → (names (numberOf h) ≡ true) × (hashOf (numb
 number-names Sha256 = (refl, refl)
 number-names Sha512 = (refl, refl)
 
+-- an answer by a test, `Is` or `Unknown`, says how the test came out, and which hash it was
+pub unknown : (b : Bool) (h : Hash) → cond b (Is h) Unknown ≡ Unknown → b ≡ false
+unknown true h e = let z : _≡_ {A = ℕ} 0 1 = cc in absurd (omega arith)
+unknown false h e = refl
+
+pub known : (b : Bool) (g h : Hash) → cond b (Is g) Unknown ≡ Is h → (b ≡ true) × (g ≡ h)
+known true g h e = (refl, cc)
+known false g h e = let z : _≡_ {A = ℕ} 0 1 = cc in absurd (omega arith)
+
 -- what `which` answered says whether the number names a hash, and which
 module _ (n : ℕ) where
-  unknown : (b : Bool) (h : Hash) → cond b (Is h) Unknown ≡ Unknown → b ≡ false
-  unknown true h e = let z : _≡_ {A = ℕ} 0 1 = cc in absurd (omega arith)
-  unknown false h e = refl
-
   pub which-unknown : whichOf n ≡ Unknown → names n ≡ false
   which-unknown e = unknown (names n) (hashOf n) e
-
-  known : (b : Bool) (g h : Hash) → cond b (Is g) Unknown ≡ Is h → (b ≡ true) × (g ≡ h)
-  known true g h e = (refl, cc)
-  known false g h e = let z : _≡_ {A = ℕ} 0 1 = cc in absurd (omega arith)
 
   pub which-is : (h : Hash) → whichOf n ≡ Is h → (names n ≡ true) × (hashOf n ≡ h)
   which-is h e = known (names n) (hashOf n) h e

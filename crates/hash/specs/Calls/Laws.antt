@@ -105,19 +105,19 @@ module _ (k : ℕ) (refusal : k ≡ done → ⊥) where
 -- a call is done exactly when every check passes
 pub start-done : (n : ℕ) → startOf n .number ≡ done ↔ Pass (startChecks n)
 unfolding startOf
-start-done n = exactly-done (startChecks n) (more (λ e. omega arith) none)
+start-done n = exactly-done (startChecks n) (more (λ f e. omega arith) none)
 
 pub update-done : (s : State) (p : List ℕ) → updateOf s p .number ≡ done ↔ Pass (updateChecks s p)
 unfolding updateOf
-update-done s p = exactly-done (updateChecks s p) (more (λ e. omega arith) (more (λ e. omega arith) none))
+update-done s p = exactly-done (updateChecks s p) (more (λ f e. omega arith) (more (λ f e. omega arith) none))
 
 pub finish-done : (s : State) (out : List ℕ) → finishOf s out .0 ≡ done ↔ Pass (finishChecks s out)
 unfolding finishOf
-finish-done s out = exactly-done (finishChecks s out) (more (λ e. omega arith) (more (λ e. omega arith) none))
+finish-done s out = exactly-done (finishChecks s out) (more (λ f e. omega arith) (more (λ f e. omega arith) none))
 
 pub digest-done : (n : ℕ) (m out : List ℕ) → digestAnswer n m out .0 ≡ done ↔ Pass (digestChecks n m out)
 unfolding digestAnswer
-digest-done n m out = exactly-done (digestChecks n m out) (more (λ e. omega arith) (more (λ e. omega arith) (more (λ e. omega arith) none)))
+digest-done n m out = exactly-done (digestChecks n m out) (more (λ f e. omega arith) (more (λ f e. omega arith) (more (λ f e. omega arith) none)))
 
 -- every start hands back a sound state, also a refused one
 pub start-held : (n : ℕ) → Held (startOf n .state)

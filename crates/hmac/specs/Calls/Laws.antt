@@ -199,10 +199,13 @@ pub verify-tag : (k : Keyed) (t : ℕ) (presented : List ℕ) → soundKeyed k �
 verify-tag k t presented h a e =
     subst (λ (r : ℕ). r ≡ done ↔ (presented ≡ take t (fullTag k))) (sym (verify-compared k t presented h a e)) (says-yes presented (take t (fullTag k)))
 
-pub verify-message-tag : (n : ℕ) (key m : List ℕ) (t : ℕ) (presented : List ℕ) → names n ≡ true → length key ≤ mostBytes
-    → length m ≤ mostBytes - blockOf (hashOf n) → allowed (hashOf n) t ≡ true → length presented ≡ t
-    → verifyMessageAnswer n key m t presented ≡ done ↔ (presented ≡ tagOf (hashOf n) key t m)
-unfolding verifyMessageAnswer
-verify-message-tag n key m t presented h l g a e =
-    rw (h, le-leb (length key) mostBytes l, le-leb (length m) (mostBytes - blockOf (hashOf n)) g, a, eq-eqb (length presented) t e)
-    (says-yes presented (tagOf (hashOf n) key t m))
+module _ (n : ℕ) (key m : List ℕ) (t : ℕ) (presented : List ℕ) (h : names n ≡ true) (l : length key ≤ mostBytes)
+    (g : length m ≤ mostBytes - blockOf (hashOf n)) (a : allowed (hashOf n) t ≡ true) (e : length presented ≡ t) where
+  pub verify-message-compared : verifyMessageAnswer n key m t presented ≡ cond (equal presented (tagOf (hashOf n) key t m)) done tagDiffers
+  unfolding verifyMessageAnswer
+  verify-message-compared =
+      rw (h, le-leb (length key) mostBytes l, le-leb (length m) (mostBytes - blockOf (hashOf n)) g, a, eq-eqb (length presented) t e)
+
+  pub verify-message-tag : verifyMessageAnswer n key m t presented ≡ done ↔ (presented ≡ tagOf (hashOf n) key t m)
+  verify-message-tag =
+      subst (λ (r : ℕ). r ≡ done ↔ (presented ≡ tagOf (hashOf n) key t m)) (sym verify-message-compared) (says-yes presented (tagOf (hashOf n) key t m))

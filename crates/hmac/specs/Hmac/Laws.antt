@@ -8,8 +8,8 @@ use lib.ListN.{length, take, drop}
 use lib.Seq.{length-take-le, take-all, take-take, take-at, drop-at}
 use Rattle.algorithm.specs.declared.hashes.Hash.{Hash}
 use Rattle.algorithm.specs.Hashes.{blockOf, sizeOf}
-use Rattle.hash.specs.Digest.{blocksOf, digestOf}
-use Rattle.hash.specs.Digest.Laws.{digest-length, padding-injective}
+use Rattle.hash.specs.Digest.{blocksOf, fromBlocks, digestOf}
+use Rattle.hash.specs.Digest.Laws.{digest-length, digest-from-blocks, padding-injective}
 use Rattle.hmac.specs.Form.{formOf, masked, innerPad, outerPad}
 use Rattle.hmac.specs.Form.Laws.{masked-injective, inner-length}
 use Rattle.hmac.specs.Hmac.{hmacOf, innerBlocksOf, tagOf}
@@ -30,6 +30,11 @@ module _ (h : Hash) where
 
     pub tag-full : (m : List ℕ) → tagOf h k (sizeOf h) m ≡ hmacOf h k m
     tag-full m = take-all (sizeOf h) (hmacOf h k m) (omega (arith, hmac-length m))
+
+    -- the full tag comes from the blocks that the inner hash is fed, and from the outer pad
+    pub hmac-from-blocks : (m : List ℕ) → hmacOf h k m ≡ digestOf h (outerPad h k ++ fromBlocks h (innerBlocksOf h k m))
+    unfolding hmacOf innerBlocksOf
+    hmac-from-blocks m = ap (λ (d : List ℕ). digestOf h (outerPad h k ++ d)) (digest-from-blocks h (innerPad h k ++ m))
 
   -- the inner hash is fed the same blocks exactly where the form of the key and the message are the same
   module _ (k k′ m m′ : List ℕ) where

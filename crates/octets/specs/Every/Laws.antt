@@ -6,7 +6,7 @@ use Prim.Native.Nat.{ℕ, zero, suc, _+_, _<_}
 use native.Mathlib.Nat.{le-of-suc-le-suc, not-suc-le-zero}
 use native.Mathlib.Numerals.{add-one}
 use lib.Dec.{eqb}
-use lib.ListN.{length, getD, take, drop, replicate}
+use lib.ListN.{length, getD, take, drop, replicate, take-append-drop}
 use lib.Seq.{take-suc}
 use borrow.Author.Tests.{eqb-true}
 use Rattle.octets.specs.Every.{every, allZero}
@@ -36,6 +36,9 @@ module _ (p : ℕ → Bool) where
   every-drop zero l h = h
   every-drop (suc n) [] h = refl
   every-drop (suc n) (x ∷ l) h = every-drop n l (and-parts (p x) (every p l) h .1)
+
+  pub every-take : (n : ℕ) (l : List ℕ) → every p l ≡ true → every p (take n l) ≡ true
+  every-take n l h = and-parts (every p (take n l)) (every p (drop n l)) (sym (every-append (take n l) (drop n l)) ∙ ap (every p) (take-append-drop n l) ∙ h) .0
 
   -- each element passes
   pub every-at : (l : List ℕ) → every p l ≡ true → (i : ℕ) → i < length l → p (getD l i 0) ≡ true

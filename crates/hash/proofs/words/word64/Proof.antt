@@ -3,7 +3,7 @@ use mathlib.Core.Path.{_∙_}
 use Prim.Native.Nat.{_*_, _+_, _^_}
 use denote.Ref.{now}
 use borrow.Author.Needs.{needs}
-use Rattle.hash.proofs.Numbers.{number-parts}
+use Rattle.octets.specs.Number.Laws.{number-parts}
 use Rattle.hash.proofs.words.word64.Statement.{statement}
 use Rattle.hash.proofs.words.word64.Tie as tie
 

@@ -1,9 +1,9 @@
--- `hash::ending::eight_bytes` meets its contract. Assumes nothing.
+-- `octets::numbers::eight_bytes` meets its contract. Assumes nothing.
 use native.Mathlib.Nat.{div-div-eq-div-mul}
 use borrow.Author.Needs.{needs}
 use Rattle.octets.specs.Number.{bytes}
-use Rattle.hash.proofs.ending.eight_bytes.Statement.{statement}
-use Rattle.hash.proofs.ending.eight_bytes.Tie as tie
+use Rattle.octets.proofs.numbers.eight_bytes.Statement.{statement}
+use Rattle.octets.proofs.numbers.eight_bytes.Tie as tie
 
 returns : tie.Need-returns
 unfolding bytes

@@ -1,0 +1,1 @@
+// What the parts add up to: theorems alone, in specs/.

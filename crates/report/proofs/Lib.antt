@@ -1,0 +1,3 @@
+pub mod Walking
+pub mod Heads
+pub mod Checked

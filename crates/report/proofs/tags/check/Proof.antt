@@ -1,0 +1,102 @@
+-- `report::tags::check`: reading, the key's check, then the tag. Assumes nothing.
+use mathlib.Core.Path.{_≡_, refl, sym, ap, _∙_}
+use mathlib.Core.Bool.{true, cond}
+use mathlib.Core.List.{List}
+use Prim.Native.Nat.{ℕ, _-_, _≤_}
+use native.Mathlib.Nat.{le-refl}
+use native.Mathlib.Omega.{arith}
+use lib.ListN.{length, take, drop, length-drop}
+use lib.Seq.{length-take-le}
+use borrow.Author.Needs.{needs}
+use denote.Ref.{now}
+use Rattle.octets.specs.Number.{numberAt}
+use Rattle.octets.specs.Parts.{part-all}
+use Rattle.octets.specs.Same.{equal}
+use Rattle.algorithm.specs.declared.hashes.Hash.{Hash}
+use Rattle.algorithm.specs.Hashes.{hashOf, blockOf, shortestOf}
+use Rattle.algorithm.specs.Hashes.Laws.{half-digest, block-most}
+use Rattle.algorithm.specs.Refusals.{done, tagDiffers, mostBytes}
+use Rattle.hmac.specs.Hmac.{tagOf}
+use Rattle.hmac.specs.Calls.{allowed, verifyMessageAnswer}
+use Rattle.hmac.specs.Calls.Laws.{length-allowed, verify-message-compared}
+use Rattle.report.specs.Reading.{hashIn, tagStart, beforeTag}
+use Rattle.report.specs.Reading.Laws.{short}
+use Rattle.report.specs.Calls.{checkAnswer}
+use Rattle.report.specs.Calls.Laws.{key-fits, check-refused, check-key, check-compared}
+use Rattle.report.specs.declared.checks.Checked.{Checked}
+use Rattle.report.proofs.Checked.{Read, number, refuses, read, made, hash-is, end-high, tag-size}
+use Rattle.report.proofs.tags.check.Statement.{statement}
+use Rattle.report.proofs.tags.check.Tie as tie
+
+-- the shortest tag may be asked for
+shortest-allowed : (h : Hash) → allowed h (shortestOf h) ≡ true
+shortest-allowed h = length-allowed h (shortestOf h) (le-refl (shortestOf h)) (omega (arith, half-digest h))
+
+-- what HMAC says of a report that passes and a key that fits
+verified : (s key : List ℕ) {r : Checked} → Read s r → length key ≤ mostBytes → {v : ℕ}
+    → v ≡ verifyMessageAnswer (r .hash) key (take (r .end) s) (length s - r .end) (take (length s - r .end) (drop (r .end) s)) → v ≡ checkAnswer s key
+verified s key p l e =
+    let n : ℕ = numberAt s 5 1 in
+    let at : ℕ = tagStart s in
+    let t : ℕ = shortestOf (hashIn s) in
+    let tag : List ℕ = drop at s in
+    let h : hashOf n ≡ hashIn s = hash-is s p in
+    let fits : length (beforeTag s) ≤ mostBytes - blockOf (hashOf n) = omega (arith, short s (p .passes), block-most (hashOf n)) in
+    let asked : allowed (hashOf n) t ≡ true = ap (λ (x : Hash). allowed x t) h ∙ shortest-allowed (hashIn s) in
+    e
+    ∙ (λ j. verifyMessageAnswer (p .hash j) key (take (p .end j) s) (length s - p .end j) (take (length s - p .end j) (drop (p .end j) s)))
+    ∙ (λ j. verifyMessageAnswer n key (beforeTag s) (tag-size s p j) (part-all s (length s) at refl j))
+    ∙ verify-message-compared n key (beforeTag s) t tag (made s p) l fits asked (length-drop at s ∙ tag-size s p)
+    ∙ ap (λ (x : Hash). cond (equal tag (tagOf x key t (beforeTag s))) done tagDiffers) h
+    ∙ sym (check-compared s key (p .passes) l)
+
+returns : tie.Need-returns
+returns c =
+    let start = c .before .before .before .before .before in
+    let s = now (start .args .report) in
+    let e = c .before .before .check-report .ensures in
+    number s e ∙ sym (check-refused s (now (start .args .tag-key)) (refuses s e (c .if1 .taken)))
+
+returns-2 : tie.Need-returns-2
+returns-2 c =
+    let start = c .before .before .before .before .before .before .before in
+    let s = now (start .args .report) in
+    let p = read s (c .before .before .before .before .check-report .ensures) (c .before .before .if1 .left) in
+    let e = c .before .key-number .ensures in
+    e ∙ sym (check-key s (now (start .args .tag-key)) (p .passes) (λ d. c .if2 .taken (e ∙ d)))
+
+slice-aggregate-verify-message : tie.Need-slice-aggregate-verify-message
+slice-aggregate-verify-message c =
+    let s = now (c .before .before .before .before .before .before .before .before .args .report) in
+    let found = c .before .before .before .before .before .check-report in
+    sym (length-take-le (found .result .end) s (end-high s (read s (found .ensures) (c .before .before .before .if1 .left))))
+
+sub-verify-message : tie.Need-sub-verify-message
+sub-verify-message c =
+    let s = now (c .before .before .before .before .before .before .before .before .args .report) in
+    end-high s (read s (c .before .before .before .before .before .check-report .ensures) (c .before .before .before .if1 .left))
+
+sub-verify-message-2 : tie.Need-sub-verify-message-2
+sub-verify-message-2 c =
+    let s = now (c .before .before .before .before .before .before .before .before .args .report) in
+    end-high s (read s (c .before .before .before .before .before .check-report .ensures) (c .before .before .before .if1 .left))
+
+part-verify-message-start : tie.Need-part-verify-message-start
+part-verify-message-start c =
+    let s = now (c .before .before .before .before .before .before .before .before .args .report) in
+    end-high s (read s (c .before .before .before .before .before .check-report .ensures) (c .before .before .before .if1 .left))
+
+returns-3 : tie.Need-returns-3
+returns-3 c =
+    let start = c .before .before .before .before .before .before .before .before .before .before in
+    let s = now (start .args .report) in
+    let key = now (start .args .tag-key) in
+    let p = read s (c .before .before .before .before .before .before .before .check-report .ensures) (c .before .before .before .before .before .if1 .left) in
+    let fits = key-fits key (sym (c .before .before .before .before .key-number .ensures) ∙ c .before .before .before .if2 .left) in
+    verified s key p fits (c .verify-message .ensures)
+
+pub check-spec : {M : Type 1} → statement M
+check-spec =
+    tie.close
+    (tie.spec (λ c κs. search needs) returns (λ c κs. search needs) returns-2 slice-aggregate-verify-message sub-verify-message sub-verify-message-2
+    part-verify-message-start (λ c. search needs) (λ c κs. search needs) returns-3)

@@ -1,0 +1,117 @@
+-- What each public call answers, for all arguments: its checks in their order, and the work where none fails. An outcome
+-- predicate is what the call's contract says; Calls/Unique.antt shows that no second outcome meets it. Assumes nothing.
+pub mod Laws
+pub mod Unique
+use mathlib.Core.Path.{_≡_}
+use mathlib.Core.List.{List, [], _∷_, _++_}
+use Prim.Native.Nat.{ℕ, zero, suc, _+_, _*_}
+use lib.Dec.{leb, ltb, eqb}
+use lib.ListN.{length, drop, getD}
+use Rattle.octets.specs.Same.{equal}
+use Rattle.algorithm.specs.Hashes.{sizeOf, shortestOf}
+use Rattle.algorithm.specs.Refusals.{tagDiffers, unknownHash, keyTooLong, wrongSize, prkTooShort, noSuchSite, mostBytes}
+use Rattle.algorithm.specs.Checks.{Check, check, firstFailing, decided, answered}
+use Rattle.hmac.specs.Hmac.{tagOf}
+use Rattle.report.specs.Layout.{Site, Fields, liveOf}
+use Rattle.report.specs.Reading.{namesHash, hashNamed, hashIn, tagStart, beforeTag, sitesIn, readChecks, readOf}
+use Rattle.report.specs.Fingerprint.{fingerprintOf}
+use Rattle.report.specs.Keys.{keysOf}
+use Rattle.report.specs.declared.reading.Reading.{Reading}
+use Rattle.report.specs.declared.sites.SiteAt.{SiteAt}
+
+-- read(report): the number, every field, how many sites and the sum of their live bytes
+abbrev pub readingOf : ℕ × Fields → Reading
+readingOf r = record {
+  number = r .0;
+  count = r .1 .count;
+  version = r .1 .version;
+  hash = r .1 .hash;
+  tenant = r .1 .tenant;
+  machine = r .1 .machine;
+  report = r .1 .report;
+  sent = r .1 .sent;
+  attempt = r .1 .attempt;
+  memory = r .1 .memory;
+  sites = length (r .1 .sites);
+  live = liveOf (r .1 .sites);
+}
+
+abbrev pub ReadOutcome : List ℕ → Reading → Type 0
+ReadOutcome s r = r ≡ readingOf (readOf s)
+
+-- the site at a place, and where it starts behind the first one
+abbrev pub noSite : Site
+noSite = record { label = []; live = 0; blocks = 0 }
+
+abbrev pub siteOf : List Site → ℕ → Site
+siteOf xs place = getD xs place noSite
+
+unfoldable pub before : List Site → ℕ → ℕ
+before xs zero = 0
+before [] (suc i) = 0
+before (x ∷ xs) (suc i) = length (x .label) + 13 + before xs i
+
+-- site(report, place)
+abbrev pub placeChecks : List ℕ → ℕ → List Check
+placeChecks s place = readChecks s ++ (check (ltb place (length (sitesIn s .1))) noSuchSite ∷ [])
+
+pub siteAnswer : List ℕ → ℕ → SiteAt
+siteAnswer s place = record {
+  number = firstFailing (placeChecks s place);
+  start = decided (placeChecks s place) (46 + before (sitesIn s .1) place) 0;
+  length = decided (placeChecks s place) (length (siteOf (sitesIn s .1) place .label)) 0;
+  live = decided (placeChecks s place) (siteOf (sitesIn s .1) place .live) 0;
+  blocks = decided (placeChecks s place) (siteOf (sitesIn s .1) place .blocks) 0;
+}
+
+abbrev pub SiteOutcome : List ℕ → ℕ → SiteAt → Type 0
+SiteOutcome s place r = r ≡ siteAnswer s place
+
+-- label(report, place, number)
+pub labelAnswer : List ℕ → ℕ → ℕ × List ℕ
+labelAnswer s place = answered (placeChecks s place) (siteOf (sitesIn s .1) place .label) []
+
+abbrev pub LabelOutcome : List ℕ → ℕ → ℕ → List ℕ → Type 0
+LabelOutcome s place r part = _≡_ {A = ℕ × List ℕ} (r, part) (labelAnswer s place)
+
+-- the check of a report's key
+abbrev pub keyChecks : List ℕ → List Check
+keyChecks key = check (leb (length key) mostBytes) keyTooLong ∷ []
+
+-- check(report, tag_key)
+abbrev pub tagChecks : List ℕ → List ℕ → List Check
+tagChecks s key =
+    readChecks s
+    ++ (keyChecks key
+    ++ (check (equal (drop (tagStart s) s) (tagOf (hashIn s) key (shortestOf (hashIn s)) (beforeTag s))) tagDiffers ∷ []))
+
+pub checkAnswer : List ℕ → List ℕ → ℕ
+checkAnswer s key = firstFailing (tagChecks s key)
+
+abbrev pub CheckOutcome : List ℕ → List ℕ → ℕ → Type 0
+CheckOutcome s key r = r ≡ checkAnswer s key
+
+-- fingerprint(report, fingerprint_key, out)
+abbrev pub fingerprintChecks : List ℕ → List ℕ → List ℕ → List Check
+fingerprintChecks s key out = readChecks s ++ (keyChecks key ++ (check (eqb (length out) 32) wrongSize ∷ []))
+
+pub fingerprintAnswer : List ℕ → List ℕ → List ℕ → ℕ × List ℕ
+fingerprintAnswer s key out = answered (fingerprintChecks s key out) (fingerprintOf s key) out
+
+abbrev pub FingerprintOutcome : List ℕ → List ℕ → List ℕ → ℕ → List ℕ → Type 0
+FingerprintOutcome s key out r after = _≡_ {A = ℕ × List ℕ} (r, after) (fingerprintAnswer s key out)
+
+-- keys(number, prk, tenant, machine, out)
+abbrev pub keysChecks : ℕ → List ℕ → List ℕ → List Check
+keysChecks n prk out =
+    check (namesHash n) unknownHash
+    ∷ check (leb (length prk) mostBytes) keyTooLong
+    ∷ check (eqb (length out) (2 * sizeOf (hashNamed n))) wrongSize
+    ∷ check (leb (sizeOf (hashNamed n)) (length prk)) prkTooShort
+    ∷ []
+
+pub keysAnswer : ℕ → List ℕ → ℕ → ℕ → List ℕ → ℕ × List ℕ
+keysAnswer n prk tenant machine out = answered (keysChecks n prk out) (keysOf (hashNamed n) prk tenant machine) out
+
+abbrev pub KeysOutcome : ℕ → List ℕ → ℕ → ℕ → List ℕ → ℕ → List ℕ → Type 0
+KeysOutcome n prk tenant machine out r after = _≡_ {A = ℕ × List ℕ} (r, after) (keysAnswer n prk tenant machine out)

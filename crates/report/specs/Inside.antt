@@ -1,0 +1,158 @@
+-- What the private functions ask and promise. Assumes nothing.
+use mathlib.Core.Path.{_≡_}
+use mathlib.Core.Bool.{Bool, true, false, cond, _||_}
+use mathlib.Core.List.{List, [], _∷_}
+use Prim.Native.Nat.{ℕ, suc, _+_, _-_, _*_, _^_, _≤_, _<_}
+use lib.Dec.{leb, ltb, eqb}
+use lib.ListN.{length, take, drop, getD}
+use Rattle.octets.specs.Number.{numberAt}
+use Rattle.algorithm.specs.Hashes.{names, hashOf, blockOf, sizeOf}
+use Rattle.algorithm.specs.Refusals.{done, wrongReportLength, unknownVersion, sitesMisplaced, sumTooLarge, mostBytes}
+use Rattle.algorithm.specs.Checks.{Check, check, firstFailing, decided}
+use Rattle.report.specs.Layout.{Site, liveOf}
+use Rattle.report.specs.Reading.{tagStart, withSite, readSites, sitesIn, mostLive, headChecks, sitesChecks, readChecks, noFields}
+use Rattle.report.specs.Calls.{readingOf, siteOf, before}
+use Rattle.report.specs.declared.walk.Step.{Step}
+use Rattle.report.specs.declared.walk.Sum.{Sum}
+use Rattle.report.specs.declared.walk.Counted.{Counted}
+use Rattle.report.specs.declared.checks.Head.{Head}
+use Rattle.report.specs.declared.checks.Checked.{Checked}
+use Rattle.report.specs.declared.reading.Reading.{Reading}
+use Rattle.report.specs.declared.sites.SiteAt.{SiteAt}
+
+-- a number is that of some bytes from a place on, and so has so many bits
+pub record NumberIs (s : List ℕ) (at size n : ℕ) : Type 0 where
+  pub is : n ≡ numberAt s at size
+  pub below : n < 256 ^ size
+
+-- the site that starts at a place
+abbrev pub siteHere : List ℕ → ℕ → Site
+siteHere s at = record {
+  label = take (getD s at 0) (drop (at + 1) s);
+  live = numberAt s (at + getD s at 0 + 1) 8;
+  blocks = numberAt s (at + getD s at 0 + 9) 4;
+}
+
+-- such a site fits, and the next one starts behind it
+pub record Fits (body : List ℕ) (at : ℕ) : Type 0 where
+  pub room : at + getD body at 0 + 13 ≤ length body
+  pub reads : (n : ℕ) → readSites (suc n) (drop at body) ≡ withSite (siteHere body at) (readSites n (drop (at + getD body at 0 + 13) body))
+
+-- one site of the walk
+pub record Stepped (body : List ℕ) (at : ℕ) (r : Step) : Type 0 where
+  pub refuses : (r .number ≡ done → ⊥) → (n : ℕ) → readSites (suc n) (drop at body) .0 ≡ r .number
+  pub fits : r .number ≡ done → Fits body at
+  pub next : r .number ≡ done → r .next ≡ at + getD body at 0 + 13
+  pub live : r .number ≡ done → r .live ≡ numberAt body (at + getD body at 0 + 1) 8
+
+-- a sum in 64 bits, one summand more, and what such a sum says of a number
+abbrev pub plusOf : Sum → ℕ → Sum
+plusOf a x = cond (a .over || ltb (mostLive - a .live) x) (record { over = true; live = 0 }) (record { over = false; live = a .live + x })
+
+abbrev pub SumBy : Bool → ℕ → ℕ → Type 0
+SumBy true n t = mostLive < t
+SumBy false n t = n ≡ t
+
+abbrev pub SumIs : Sum → ℕ → Type 0
+SumIs a t = SumBy (a .over) (a .live) t
+
+-- the end of the walk
+abbrev pub endOf : Bool → Sum → Counted
+endOf left a =
+    cond left (record { number = sitesMisplaced; live = 0 })
+    (cond (a .over) (record { number = sumTooLarge; live = 0 }) (record { number = done; live = a .live }))
+
+-- the whole walk
+pub record Walked (body : List ℕ) (sites : ℕ) (r : Counted) : Type 0 where
+  pub number : r .number ≡ firstFailing (sitesChecks (readSites sites (drop 45 body)))
+  pub live : r .number ≡ done → r .live ≡ liveOf (readSites sites (drop 45 body) .1)
+
+-- the first checks, and with those of the hash and of the number of sites all before the sites, with where the tag starts
+abbrev pub startChecks : List ℕ → List Check
+startChecks s =
+    check (leb 61 (length s)) wrongReportLength
+    ∷ check (eqb (numberAt s 0 4) (length s - 4)) wrongReportLength
+    ∷ check (eqb (numberAt s 4 1) 1) unknownVersion
+    ∷ []
+
+abbrev pub stoppedHead : ℕ → Head
+stoppedHead n = record { number = n; end = 0 }
+
+abbrev pub headOf : List ℕ → Head
+headOf s = record { number = firstFailing (headChecks s); end = decided (headChecks s) (tagStart s) 0 }
+
+-- all checks, with what they found out
+abbrev pub stopped : ℕ → Checked
+stopped n = record { number = n; hash = 0; end = 0; sites = 0; live = 0 }
+
+abbrev pub checkedOf : List ℕ → Checked
+checkedOf s = record {
+  number = firstFailing (readChecks s);
+  hash = decided (readChecks s) (numberAt s 5 1) 0;
+  end = decided (readChecks s) (tagStart s) 0;
+  sites = decided (readChecks s) (numberAt s 43 2) 0;
+  live = decided (readChecks s) (liveOf (sitesIn s .1)) 0;
+}
+
+-- what reading answers to a report that is refused, and to one whose live bytes are known
+abbrev pub refusedReading : ℕ → Reading
+refusedReading n = readingOf (n, noFields)
+
+abbrev pub headReading : List ℕ → ℕ → Reading
+headReading s live = record {
+  number = done;
+  count = numberAt s 0 4;
+  version = numberAt s 4 1;
+  hash = numberAt s 5 1;
+  tenant = numberAt s 6 4;
+  machine = numberAt s 10 8;
+  report = numberAt s 18 8;
+  sent = numberAt s 26 8;
+  attempt = numberAt s 34 1;
+  memory = numberAt s 35 8;
+  sites = numberAt s 43 2;
+  live = live;
+}
+
+-- what is answered for a place that is refused
+abbrev pub refusedSite : ℕ → SiteAt
+refusedSite n = record { number = n; start = 0; length = 0; live = 0; blocks = 0 }
+
+-- and for a place at which there is a site
+abbrev pub foundSite : List Site → ℕ → SiteAt
+foundSite xs place = record {
+  number = done;
+  start = 46 + before xs place;
+  length = length (siteOf xs place .label);
+  live = siteOf xs place .live;
+  blocks = siteOf xs place .blocks;
+}
+
+-- the sites of a report's body
+abbrev pub bodySites : List ℕ → ℕ × List Site
+bodySites body = readSites (numberAt body 43 2) (drop 45 body)
+
+-- a body has a site at a place, and the site starts there
+pub record Standing (body : List ℕ) (place : ℕ) : Type 0 where
+  pub reads : bodySites body .0 ≡ done
+  pub there : place < numberAt body 43 2
+
+pub record StartIs (body : List ℕ) (place at : ℕ) : Type 0 where
+  pub is : at ≡ 45 + before (bodySites body .1) place
+  pub here : siteOf (bodySites body .1) place ≡ siteHere body at
+  pub room : at + getD body at 0 + 13 ≤ length body
+
+-- a key and two pieces that HMAC takes, and an output for a fingerprint
+pub record TwoPieces (n : ℕ) (key first second out : List ℕ) : Type 0 where
+  pub known : names n ≡ true
+  pub key-fits : length key ≤ mostBytes
+  pub fits : length first + length second ≤ mostBytes - blockOf (hashOf n)
+  pub size : length out ≡ 32
+
+-- a PRK that expand takes, and an output for both keys
+pub record Derivable (n size : ℕ) (prk out : List ℕ) : Type 0 where
+  pub known : names n ≡ true
+  pub digest : size ≡ sizeOf (hashOf n)
+  pub fits : length prk ≤ mostBytes
+  pub long : size ≤ length prk
+  pub room : length out ≡ 2 * size

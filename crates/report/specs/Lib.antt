@@ -1,0 +1,6 @@
+pub mod Layout
+pub mod Reading
+pub mod Fingerprint
+pub mod Keys
+pub mod Calls
+pub mod Inside

@@ -1,0 +1,106 @@
+-- Reading a report (docs/PROTOCOL.md, "Reports"): one total function from bytes to the number and the fields. It is open, so that a
+-- report's reading computes. Assumes nothing.
+pub mod Laws
+use mathlib.Core.Path.{_≡_}
+use mathlib.Core.Bool.{Bool, true, cond, _&&_, _||_}
+use mathlib.Core.List.{List, [], _∷_, _++_}
+use Prim.Native.Nat.{ℕ, zero, suc, _+_, _-_}
+use lib.Dec.{leb, eqb}
+use lib.ListN.{length, take, drop}
+use Rattle.octets.specs.Number.{numberAt}
+use Rattle.octets.specs.Every.{allBytes}
+use Rattle.algorithm.specs.declared.hashes.Hash.{Hash}
+use Rattle.algorithm.specs.declared.hashes.Hash.the-variants.{Sha256, Sha512}
+use Rattle.algorithm.specs.declared.hashes.Named.{Named}
+use Rattle.algorithm.specs.declared.hashes.Named.the-variants.{Is, Unknown}
+use Rattle.algorithm.specs.Hashes.{shortestOf}
+use Rattle.algorithm.specs.Refusals.{done, unknownHash, wrongReportLength, unknownVersion, tooManySites, labelLengthOutOfRange, sitesMisplaced, sumTooLarge}
+use Rattle.algorithm.specs.Checks.{Check, check, firstFailing, decided}
+use Rattle.report.specs.Layout.{Site, Fields, liveOf}
+
+-- the hash that a report names by a number: its own list, whatever other calls make
+abbrev pub namesHash : ℕ → Bool
+namesHash n = eqb n 1 || eqb n 2
+
+abbrev pub hashNamed : ℕ → Hash
+hashNamed n = cond (eqb n 2) Sha512 Sha256
+
+abbrev pub namedIn : ℕ → Named
+namedIn n = cond (namesHash n) (Is (hashNamed n)) Unknown
+
+-- the hash of a report, where its tag starts (16 or 32 bytes before its end, half a digest), and all bytes before the tag
+abbrev pub hashIn : List ℕ → Hash
+hashIn s = hashNamed (numberAt s 5 1)
+
+abbrev pub tagStart : List ℕ → ℕ
+tagStart s = length s - shortestOf (hashIn s)
+
+abbrev pub beforeTag : List ℕ → List ℕ
+beforeTag s = take (tagStart s) s
+
+-- a number and some sites, with a site put before them
+abbrev pub withSite : Site → ℕ × List Site → ℕ × List Site
+withSite x w = (w .0, x ∷ w .1)
+
+-- n sites that are to fill some bytes: the number that refuses them, and the sites
+unfoldable pub readSites : ℕ → List ℕ → ℕ × List Site
+readSites zero [] = (done, [])
+readSites zero (b ∷ l) = (sitesMisplaced, [])
+readSites (suc n) [] = (sitesMisplaced, [])
+readSites (suc n) (size ∷ l) =
+    cond (leb 1 size && leb size 48)
+    (cond (leb (size + 12) (length l))
+    (withSite (record { label = take size l; live = numberAt l size 8; blocks = numberAt l (size + 8) 4 }) (readSites n (drop (size + 12) l)))
+    (sitesMisplaced, []))
+    (labelLengthOutOfRange, [])
+
+abbrev pub sitesIn : List ℕ → ℕ × List Site
+sitesIn s = readSites (numberAt s 43 2) (drop 45 (beforeTag s))
+
+-- the most live bytes in all
+abbrev pub mostLive : ℕ
+mostLive = 18446744073709551615
+
+-- the checks before the sites, those of the sites, and all
+abbrev pub headChecks : List ℕ → List Check
+headChecks s =
+    check (leb 61 (length s)) wrongReportLength
+    ∷ check (eqb (numberAt s 0 4) (length s - 4)) wrongReportLength
+    ∷ check (eqb (numberAt s 4 1) 1) unknownVersion
+    ∷ check (namesHash (numberAt s 5 1)) unknownHash
+    ∷ check (leb (45 + shortestOf (hashIn s)) (length s)) wrongReportLength
+    ∷ check (leb (numberAt s 43 2) 64) tooManySites
+    ∷ []
+
+abbrev pub sitesChecks : ℕ × List Site → List Check
+sitesChecks w = check (eqb (w .0) done) (w .0) ∷ check (leb (liveOf (w .1)) mostLive) sumTooLarge ∷ []
+
+abbrev pub readChecks : List ℕ → List Check
+readChecks s = headChecks s ++ sitesChecks (sitesIn s)
+
+-- the fields, each at its place
+abbrev pub fieldsOf : List ℕ → Fields
+fieldsOf s = record {
+  count = numberAt s 0 4;
+  version = numberAt s 4 1;
+  hash = numberAt s 5 1;
+  tenant = numberAt s 6 4;
+  machine = numberAt s 10 8;
+  report = numberAt s 18 8;
+  sent = numberAt s 26 8;
+  attempt = numberAt s 34 1;
+  memory = numberAt s 35 8;
+  sites = sitesIn s .1;
+}
+
+abbrev pub noFields : Fields
+noFields = record { count = 0; version = 0; hash = 0; tenant = 0; machine = 0; report = 0; sent = 0; attempt = 0; memory = 0; sites = [] }
+
+-- the number, and the fields of a report that is not refused
+unfoldable pub readOf : List ℕ → ℕ × Fields
+readOf s = (firstFailing (readChecks s), decided (readChecks s) (fieldsOf s) noFields)
+
+-- a report that reading lets pass; the tag plays no part
+pub record WellFormed (s : List ℕ) : Type 0 where
+  pub bytes : allBytes s ≡ true
+  pub reads : readOf s .0 ≡ done

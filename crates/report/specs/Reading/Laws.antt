@@ -1,0 +1,218 @@
+-- Laws of reading a report: what a report that passes has, what its sites are, and that its fields spell the bytes before its tag.
+-- Assumes nothing.
+use mathlib.Core.Path.{_≡_, refl, sym, ap, _∙_}
+use mathlib.Core.Bool.{Bool, true, false, cond, _&&_}
+use mathlib.Core.List.{List, [], _∷_, _++_, append-assoc}
+use Prim.Native.Nat.{ℕ, zero, suc, _+_, _-_, _*_, _≤_}
+use native.Mathlib.Nat.{zero-add}
+use native.Mathlib.Omega.{arith}
+use lib.Dec.{leb, ltb, lit≤}
+use lib.ListN.{length, take, drop, take-append-drop, length-drop}
+use lib.Seq.{length-take-le, slice}
+use borrow.Author.Tests.{leb-true, le-leb, eqb-true, eqb-false, eq-eqb}
+use Rattle.octets.specs.Number.{number, onto, numberAt, bytes}
+use Rattle.octets.specs.Number.Laws.{bytes-number, number-back, number-between}
+use Rattle.octets.specs.Every.{every, allBytes}
+use Rattle.octets.specs.Every.Laws.{and-parts, every-take, every-drop}
+use Rattle.algorithm.specs.Hashes.{shortestOf}
+use Rattle.algorithm.specs.Refusals.{done, labelLengthOutOfRange, sitesMisplaced}
+use Rattle.algorithm.specs.Checks.{Check, check, firstFailing, Pass, Refusing}
+use Rattle.algorithm.specs.Checks.Pass.{all, and}
+use Rattle.algorithm.specs.Checks.Refusing.{none, more}
+use Rattle.algorithm.specs.Checks.Laws.{done-passes}
+use Rattle.report.specs.Layout.{Site, Fields, siteBytes, sitesBytes, bytesOf, liveOf}
+use Rattle.report.specs.Reading.{namesHash, hashIn, tagStart, beforeTag, withSite, readSites, sitesIn, mostLive, sitesChecks, readChecks, fieldsOf, readOf, WellFormed}
+
+-- the byte of a number that is one
+byte-is : (n : ℕ) → ltb n 256 ≡ true → bytes 1 n ≡ n ∷ []
+unfolding number onto every
+byte-is n h = ap (bytes 1) (sym (zero-add n)) ∙ bytes-number 1 (n ∷ []) refl (ap (λ (b : Bool). b && true) h)
+
+-- the site whose label's length stands before some bytes
+abbrev pub firstSite : ℕ → List ℕ → Site
+firstSite size l = record { label = take size l; live = numberAt l size 8; blocks = numberAt l (size + 8) 4 }
+
+-- sites that are not refused, of which one is the first
+pub record First (n size : ℕ) (l : List ℕ) : Type 0 where
+  pub range : (leb 1 size && leb size 48) ≡ true
+  pub room : size + 12 ≤ length l
+  pub is : readSites (suc n) (size ∷ l) ≡ withSite (firstSite size l) (readSites n (drop (size + 12) l))
+  pub rest : readSites n (drop (size + 12) l) .0 ≡ done
+
+-- both tests of a site pass where it is not refused, and so it is the first
+both-pass : (b c : Bool) (w : ℕ × List Site) → cond b (cond c w (sitesMisplaced, [])) (labelLengthOutOfRange, []) .0 ≡ done
+    → (b ≡ true) × (c ≡ true)
+both-pass true true w e = (refl, refl)
+both-pass true false w e = absurd (omega arith)
+both-pass false c w e = absurd (omega arith)
+
+pub first : (n size : ℕ) (l : List ℕ) → readSites (suc n) (size ∷ l) .0 ≡ done → First n size l
+unfolding readSites
+first n size l e =
+    let w : ℕ × List Site = withSite (firstSite size l) (readSites n (drop (size + 12) l)) in
+    let p = both-pass (leb 1 size && leb size 48) (leb (size + 12) (length l)) w e in
+    record {
+      range = p .0;
+      room = leb-true (size + 12) (length l) (p .1);
+      is = rw (p .0, p .1);
+      rest = rw (p .0, p .1) at e;
+    }
+
+-- n sites are n
+pub sites-count : (n : ℕ) (l : List ℕ) → readSites n l .0 ≡ done → length (readSites n l .1) ≡ n
+unfolding readSites
+sites-count zero [] e = refl
+sites-count zero (b ∷ l) e = absurd (omega arith)
+sites-count (suc n) [] e = absurd (omega arith)
+sites-count (suc n) (size ∷ l) e =
+    let f : First n size l = first n size l e in
+    ap (λ (w : ℕ × List Site). length (w .1)) (f .is) ∙ ap suc (sites-count n (drop (size + 12) l) (f .rest))
+
+-- and have at most 61 bytes each
+pub sites-short : (n : ℕ) (l : List ℕ) → readSites n l .0 ≡ done → length l ≤ n * 61
+unfolding readSites
+sites-short zero [] e = omega arith
+sites-short zero (b ∷ l) e = absurd (omega arith)
+sites-short (suc n) [] e = absurd (omega arith)
+sites-short (suc n) (size ∷ l) e =
+    let f : First n size l = first n size l e in
+    let most = leb-true size 48 (and-parts (leb 1 size) (leb size 48) (f .range) .1) in
+    omega (arith, f .room, length-drop (size + 12) l, sites-short n (drop (size + 12) l) (f .rest))
+
+-- a site, and what follows it, are the bytes that it was read from
+site-back : (size : ℕ) (l : List ℕ) → ltb size 256 ≡ true → allBytes l ≡ true → size + 12 ≤ length l
+    → siteBytes (firstSite size l) ++ drop (size + 12) l ≡ size ∷ l
+unfolding siteBytes
+site-back size l k b h =
+    let blocks = number-back l (size + 8) 4 (size + 12) b (omega arith) h in
+    let live = number-back l size 8 (size + 8) b refl (omega arith) in
+    simp append-assoc (rw (blocks, live, take-append-drop size l, length-take-le size l (omega arith), byte-is size k))
+
+-- n sites spell the bytes that they were read from
+pub sites-back : (n : ℕ) (l : List ℕ) → allBytes l ≡ true → readSites n l .0 ≡ done → sitesBytes (readSites n l .1) ≡ l
+unfolding readSites sitesBytes every
+sites-back zero [] b e = refl
+sites-back zero (x ∷ l) b e = absurd (omega arith)
+sites-back (suc n) [] b e = absurd (omega arith)
+sites-back (suc n) (size ∷ l) b e =
+    let f : First n size l = first n size l e in
+    let p = and-parts (ltb size 256) (allBytes l) b in
+    let rest : List ℕ = drop (size + 12) l in
+    ap (λ (w : ℕ × List Site). sitesBytes (w .1)) (f .is)
+    ∙ ap (λ (r : List ℕ). siteBytes (firstSite size l) ++ r) (sites-back n rest (every-drop _ (size + 12) l (p .1)) (f .rest))
+    ∙ site-back size l (p .0) (p .1) (f .room)
+
+-- no check of a report that fails has the number of a call that is done
+pub refuses : (b : Bool) (n : ℕ) {cs : List Check} → Refusing cs → Refusing (check b (suc n) ∷ cs)
+refuses b n r = more {c = check b (suc n)} (λ f e. omega arith) r
+
+pub sites-refusing : (w : ℕ × List Site) → Refusing (sitesChecks w)
+sites-refusing w = more (eqb-false (w .0) done) (refuses _ _ none)
+
+pub read-refusing : (s : List ℕ) → Refusing (readChecks s)
+read-refusing s = refuses _ _ (refuses _ _ (refuses _ _ (refuses _ _ (refuses _ _ (refuses _ _ (sites-refusing (sitesIn s)))))))
+
+-- sites that are not refused are well placed, and their live bytes are not too many
+pub sites-pass : (w : ℕ × List Site) → firstFailing (sitesChecks w) ≡ done → (w .0 ≡ done) × (liveOf (w .1) ≤ mostLive)
+sites-pass w e = both (done-passes (sitesChecks w) (sites-refusing w) e)
+  where
+    both : Pass (sitesChecks w) → (w .0 ≡ done) × (liveOf (w .1) ≤ mostLive)
+    both (and placed (and live all)) = (eqb-true (w .0) done placed, leb-true (liveOf (w .1)) mostLive live)
+
+-- what the fields behind the send time spell
+abbrev pub behindSent : Fields → List ℕ
+behindSent f = bytes 1 (f .attempt) ++ (bytes 8 (f .memory) ++ (bytes 2 (length (f .sites)) ++ sitesBytes (f .sites)))
+
+-- what a report has that reading lets pass
+pub record Passed (s : List ℕ) : Type 0 where
+  pub long : 61 ≤ length s
+  pub count : numberAt s 0 4 ≡ length s - 4
+  pub version : numberAt s 4 1 ≡ 1
+  pub known : namesHash (numberAt s 5 1) ≡ true
+  pub tag-fits : 45 + shortestOf (hashIn s) ≤ length s
+  pub few : numberAt s 43 2 ≤ 64
+  pub placed : sitesIn s .0 ≡ done
+  pub live : liveOf (sitesIn s .1) ≤ mostLive
+  pub sites : length (sitesIn s .1) ≡ numberAt s 43 2
+
+module _ (s : List ℕ) where
+  -- each check that passes says its part
+  all-passed : Pass (readChecks s) → Passed s
+  all-passed (and long (and count (and version (and known (and tag (and few (and placed (and live all)))))))) = record {
+    long = leb-true 61 (length s) long;
+    count = eqb-true (numberAt s 0 4) (length s - 4) count;
+    version = eqb-true (numberAt s 4 1) 1 version;
+    known = known;
+    tag-fits = leb-true (45 + shortestOf (hashIn s)) (length s) tag;
+    few = leb-true (numberAt s 43 2) 64 few;
+    placed = eqb-true (sitesIn s .0) done placed;
+    live = leb-true (liveOf (sitesIn s .1)) mostLive live;
+    sites = sites-count (numberAt s 43 2) (drop 45 (beforeTag s)) (eqb-true (sitesIn s .0) done placed);
+  }
+
+  pub passed : firstFailing (readChecks s) ≡ done → Passed s
+  passed e = all-passed (done-passes (readChecks s) (read-refusing s) e)
+
+  -- and such a report is let pass: what is checked behind reading decides
+  pub passes-then : Passed s → (cs : List Check) → firstFailing (readChecks s ++ cs) ≡ firstFailing cs
+  passes-then p cs =
+      rw (
+        le-leb 61 (length s) (p .long),
+        eq-eqb (numberAt s 0 4) (length s - 4) (p .count),
+        eq-eqb (numberAt s 4 1) 1 (p .version),
+        p .known,
+        le-leb (45 + shortestOf (hashIn s)) (length s) (p .tag-fits),
+        le-leb (numberAt s 43 2) 64 (p .few),
+        eq-eqb (sitesIn s .0) done (p .placed),
+        le-leb (liveOf (sitesIn s .1)) mostLive (p .live),
+      )
+
+  pub passes : Passed s → firstFailing (readChecks s) ≡ done
+  passes p = passes-then p []
+
+  -- few bytes stand before its tag
+  pub short : Passed s → length (beforeTag s) ≤ 3949
+  short p = omega (arith, p .few, length-drop 45 (beforeTag s), sites-short (numberAt s 43 2) (drop 45 (beforeTag s)) (p .placed))
+
+  -- a report that is let pass reads as its fields
+  pub read-fields : readOf s .0 ≡ done → readOf s .1 ≡ fieldsOf s
+  unfolding readOf
+  read-fields e = rw (eq-eqb (firstFailing (readChecks s)) done e)
+
+  module _ (w : WellFormed s) where
+    pub well-formed-passed : Passed s
+    unfolding readOf
+    well-formed-passed = passed (w .reads)
+
+    -- the tag starts behind the number of sites, and in the report
+    pub tag-low : 45 ≤ tagStart s
+    tag-low = omega (arith, well-formed-passed .tag-fits)
+
+    pub tag-high : tagStart s ≤ length s
+    tag-high = omega (arith, well-formed-passed .tag-fits)
+
+    -- a number before the sites, spelled before what follows it up to the tag
+    spelled : (at n end : ℕ) → at + n ≡ end → end ≤ 45 → bytes n (numberAt s at n) ++ slice end (tagStart s) s ≡ slice at (tagStart s) s
+    spelled at n end e h = number-between s (tagStart s) at n end (w .bytes) e (omega (arith, tag-low)) tag-high
+
+    -- the fields behind the send time spell the bytes behind it
+    pub behind-sent : behindSent (fieldsOf s) ≡ slice 34 (tagStart s) s
+    behind-sent =
+        let p : Passed s = well-formed-passed in
+        let sites = sites-back (numberAt s 43 2) (drop 45 (beforeTag s)) (every-drop _ 45 (beforeTag s) (every-take _ (tagStart s) s (w .bytes))) (p .placed) in
+        rw (p .sites, sites, spelled 43 2 45 refl (lit≤ tt), spelled 35 8 43 refl (lit≤ tt), spelled 34 1 35 refl (lit≤ tt))
+
+    -- the fields spell all bytes before the tag
+    pub layout : beforeTag s ≡ bytesOf (fieldsOf s)
+    unfolding bytesOf
+    layout =
+        rw (
+          behind-sent,
+          spelled 26 8 34 refl (lit≤ tt),
+          spelled 18 8 26 refl (lit≤ tt),
+          spelled 10 8 18 refl (lit≤ tt),
+          spelled 6 4 10 refl (lit≤ tt),
+          spelled 5 1 6 refl (lit≤ tt),
+          spelled 4 1 5 refl (lit≤ tt),
+          spelled 0 4 4 refl (lit≤ tt),
+        )

@@ -1,0 +1,35 @@
+// What the format fixes: the sizes of a report's parts, and the hash that a report names.
+ghost use mathlib.Core.Path.{_≡_};
+ghost use Rattle.report.specs.Reading.{namedIn};
+use algorithm::Hash;
+use algorithm::Named;
+
+// The bytes before the first site.
+pub(crate) const HEAD: usize = 45;
+// The fewest bytes of a report.
+pub(crate) const SMALLEST: usize = 61;
+// The most sites.
+pub(crate) const MOST_SITES: u64 = 64;
+// The most bytes of a label.
+pub(crate) const LONGEST_LABEL: usize = 48;
+// The bytes of a site beside its label: the label's length, live bytes and live blocks.
+pub(crate) const BESIDE_LABEL: usize = 13;
+// Where the count ends, and the gap that the send time leaves in a fingerprint.
+pub(crate) const COUNT_END: usize = 4;
+
+pub(crate) const GAP_START: usize = 26;
+
+pub(crate) const GAP_END: usize = 34;
+// The bytes of a fingerprint.
+pub(crate) const FINGERPRINT: usize = 32;
+
+// The hash that a report names by a number. Reports have their own list: a hash that other calls make is none of theirs.
+pub(crate) fn hash_named(number: u32) -> Named
+    ensures { λ r. ⌜ r ≡ namedIn number ⌝ }
+{
+    match number {
+        1 => Named::Is(Hash::Sha256),
+        2 => Named::Is(Hash::Sha512),
+        _ => Named::Unknown,
+    }
+}
