@@ -14,6 +14,8 @@ pub(crate) const MOST_SITES: u64 = 64;
 pub(crate) const LONGEST_LABEL: usize = 48;
 // The bytes of a site beside its label: the label's length, live bytes and live blocks.
 pub(crate) const BESIDE_LABEL: usize = 13;
+// Where the bytes start that the tag covers.
+pub(crate) const TAGGED_FROM: usize = 0;
 // Where the count ends, and the gap that the send time leaves in a fingerprint.
 pub(crate) const COUNT_END: usize = 4;
 

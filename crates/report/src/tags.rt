@@ -3,6 +3,7 @@ ghost use mathlib.Core.Path.{_≡_};
 ghost use Rattle.algorithm.specs.Checks.{firstFailing};
 ghost use Rattle.report.specs.Calls.{keyChecks, CheckOutcome};
 use crate::checks::check_report;
+use crate::format::TAGGED_FROM;
 
 // The check of a report's key, which the tag and the fingerprint share.
 pub(crate) fn key_number(key: &[u8]) -> u32
@@ -30,7 +31,7 @@ pub fn check(report: &[u8], tag_key: &[u8]) -> u32
     hmac::verify_message(
         read.hash,
         tag_key,
-        &report[..end],
+        &report[TAGGED_FROM..end],
         report.len() - end,
         &report[end..],
     )

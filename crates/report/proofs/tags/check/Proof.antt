@@ -6,7 +6,6 @@ use Prim.Native.Nat.{ℕ, _-_, _≤_}
 use native.Mathlib.Nat.{le-refl}
 use native.Mathlib.Omega.{arith}
 use lib.ListN.{length, take, drop, length-drop}
-use lib.Seq.{length-take-le}
 use borrow.Author.Needs.{needs}
 use denote.Ref.{now}
 use Rattle.octets.specs.Number.{numberAt}
@@ -34,8 +33,9 @@ shortest-allowed h = length-allowed h (shortestOf h) (le-refl (shortestOf h)) (o
 
 -- what HMAC says of a report that passes and a key that fits
 verified : (s key : List ℕ) {r : Checked} → Read s r → length key ≤ mostBytes → {v : ℕ}
-    → v ≡ verifyMessageAnswer (r .hash) key (take (r .end) s) (length s - r .end) (take (length s - r .end) (drop (r .end) s)) → v ≡ checkAnswer s key
-verified s key p l e =
+    → v ≡ verifyMessageAnswer (r .hash) key (take (r .end - 0) s) (length s - r .end) (take (length s - r .end) (drop (r .end) s)) → v ≡ checkAnswer s key
+verified s key {r} p l e =
+    let all : r .end - 0 ≡ tagStart s = omega (arith, p .end) in
     let n : ℕ = numberAt s 5 1 in
     let at : ℕ = tagStart s in
     let t : ℕ = shortestOf (hashIn s) in
@@ -44,7 +44,7 @@ verified s key p l e =
     let fits : length (beforeTag s) ≤ mostBytes - blockOf (hashOf n) = omega (arith, short s (p .passes), block-most (hashOf n)) in
     let asked : allowed (hashOf n) t ≡ true = ap (λ (x : Hash). allowed x t) h ∙ shortest-allowed (hashIn s) in
     e
-    ∙ (λ j. verifyMessageAnswer (p .hash j) key (take (p .end j) s) (length s - p .end j) (take (length s - p .end j) (drop (p .end j) s)))
+    ∙ (λ j. verifyMessageAnswer (p .hash j) key (take (all j) s) (length s - p .end j) (take (length s - p .end j) (drop (p .end j) s)))
     ∙ (λ j. verifyMessageAnswer n key (beforeTag s) (tag-size s p j) (part-all s (length s) at refl j))
     ∙ verify-message-compared n key (beforeTag s) t tag (made s p) l fits asked (length-drop at s ∙ tag-size s p)
     ∙ ap (λ (x : Hash). cond (equal tag (tagOf x key t (beforeTag s))) done tagDiffers) h
@@ -65,24 +65,23 @@ returns-2 c =
     let e = c .before .key-number .ensures in
     e ∙ sym (check-key s (now (start .args .tag-key)) (p .passes) (λ d. c .if2 .taken (e ∙ d)))
 
-slice-aggregate-verify-message : tie.Need-slice-aggregate-verify-message
-slice-aggregate-verify-message c =
-    let s = now (c .before .before .before .before .before .before .before .before .args .report) in
-    let found = c .before .before .before .before .before .check-report in
-    sym (length-take-le (found .result .end) s (end-high s (read s (found .ensures) (c .before .before .before .if1 .left))))
-
-sub-verify-message : tie.Need-sub-verify-message
-sub-verify-message c =
-    let s = now (c .before .before .before .before .before .before .before .before .args .report) in
-    end-high s (read s (c .before .before .before .before .before .check-report .ensures) (c .before .before .before .if1 .left))
+part-verify-message-end : tie.Need-part-verify-message-end
+part-verify-message-end c =
+    let s = now (c .before .before .before .before .before .before .before .args .report) in
+    end-high s (read s (c .before .before .before .before .check-report .ensures) (c .before .before .if1 .left))
 
 sub-verify-message-2 : tie.Need-sub-verify-message-2
 sub-verify-message-2 c =
     let s = now (c .before .before .before .before .before .before .before .before .args .report) in
     end-high s (read s (c .before .before .before .before .before .check-report .ensures) (c .before .before .before .if1 .left))
 
-part-verify-message-start : tie.Need-part-verify-message-start
-part-verify-message-start c =
+sub-verify-message-3 : tie.Need-sub-verify-message-3
+sub-verify-message-3 c =
+    let s = now (c .before .before .before .before .before .before .before .before .args .report) in
+    end-high s (read s (c .before .before .before .before .before .check-report .ensures) (c .before .before .before .if1 .left))
+
+part-verify-message-start-2 : tie.Need-part-verify-message-start-2
+part-verify-message-start-2 c =
     let s = now (c .before .before .before .before .before .before .before .before .args .report) in
     end-high s (read s (c .before .before .before .before .before .check-report .ensures) (c .before .before .before .if1 .left))
 
@@ -98,5 +97,5 @@ returns-3 c =
 pub check-spec : {M : Type 1} → statement M
 check-spec =
     tie.close
-    (tie.spec (λ c κs. search needs) returns (λ c κs. search needs) returns-2 slice-aggregate-verify-message sub-verify-message sub-verify-message-2
-    part-verify-message-start (λ c. search needs) (λ c κs. search needs) returns-3)
+    (tie.spec (λ c κs. search needs) returns (λ c κs. search needs) returns-2 (λ c. search needs) (λ c. search needs) part-verify-message-end
+    sub-verify-message-2 sub-verify-message-3 part-verify-message-start-2 (λ c. search needs) (λ c κs. search needs) returns-3)
