@@ -1,0 +1,72 @@
+// What the program writes: words, numbers, bytes and what came back of a call.
+use libc::STDOUT_FILENO;
+use report::Reading;
+use report::SiteAt;
+
+pub(crate) fn text(words: &[u8]) {
+    io::write_all(STDOUT_FILENO, words);
+}
+
+pub(crate) fn number(n: u64) {
+    io::print_decimal(STDOUT_FILENO, n);
+}
+
+// A number behind others.
+fn next(n: u64) {
+    text(b" ");
+    number(n);
+}
+
+fn wide(byte: u8) -> u64 {
+    byte as u64
+}
+
+fn hex(bytes: &[u8]) {
+    for i in 0..bytes.len() {
+        io::print_hex(STDOUT_FILENO, wide(bytes[i]), 2);
+    }
+}
+
+pub(crate) fn bytes(bytes: &[u8]) {
+    if bytes.len() == 0 {
+        text(b"empty");
+    } else {
+        hex(bytes);
+    }
+}
+
+// A call's number and its output.
+pub(crate) fn answer(answered: u32, out: &[u8]) {
+    number(answered as u64);
+    text(b", ");
+    bytes(out);
+    text(b"\n");
+}
+
+// The number and every field of a report.
+pub(crate) fn reading(read: Reading) {
+    number(read.number as u64);
+    text(b",");
+    next(read.count as u64);
+    next(read.version as u64);
+    next(read.hash as u64);
+    next(read.tenant as u64);
+    next(read.machine);
+    next(read.report);
+    next(read.sent);
+    next(read.attempt as u64);
+    next(read.memory);
+    next(read.sites as u64);
+    next(read.live);
+    text(b"\n");
+}
+
+// The number and what is known of a site, but for the end of its line.
+pub(crate) fn site(at: SiteAt) {
+    number(at.number as u64);
+    text(b",");
+    next(at.start as u64);
+    next(at.length as u64);
+    next(at.live);
+    next(at.blocks as u64);
+}

@@ -1,0 +1,138 @@
+"""The rules of docs/PROTOCOL.md on reports: reading, sites, tags, fingerprints and the two keys.
+
+HMAC comes from Python's own library, and everything else is written here from the document."""
+import hashlib
+import hmac
+
+HASHES = {1: hashlib.sha256, 2: hashlib.sha512}
+DIGEST_BYTES = {1: 32, 2: 64}
+BLOCK_BYTES = {1: 64, 2: 128}
+TAG_BYTES = {1: 16, 2: 32}
+MOST_KEY_BYTES = 2**32 - 1
+MOST_LIVE_BYTES = 2**64 - 1
+
+# Where each field stands and how many bytes it has: count, version, hash, tenant, machine, report number, send time, attempt,
+# memory and number of sites.
+FIELDS = [(0, 4), (4, 1), (5, 1), (6, 4), (10, 8), (18, 8), (26, 8), (34, 1), (35, 8), (43, 2)]
+SITES_START = 45
+
+UNTOUCHED = 0xA5  # fills every output beforehand, so that a refused call shows that it wrote nothing
+
+
+def number_at(report, at, size):
+    return int.from_bytes(report[at : at + size], "big")
+
+
+def tag_start(report):
+    return len(report) - TAG_BYTES[report[5]]
+
+
+def sites_of(report):
+    """The number of the first site check that fails, or 0, and the sites up to there, each as `site` answers it."""
+    sites, at, end = [], SITES_START, tag_start(report)
+    for _ in range(number_at(report, 43, 2)):
+        if at == end:
+            return 15, sites
+        length = report[at]
+        if length == 0 or length > 48:
+            return 14, sites
+        behind = at + 1 + length + 8 + 4
+        if behind > end:
+            return 15, sites
+        sites.append((at + 1, length, number_at(report, behind - 12, 8), number_at(report, behind - 4, 4)))
+        at = behind
+    return (0 if at == end else 15), sites
+
+
+def opened(report):
+    """The number with which reading ends, and the sites where it is 0."""
+    if len(report) < 61 or number_at(report, 0, 4) != len(report) - 4:
+        return 11, []
+    if report[4] != 1:
+        return 12, []
+    if report[5] not in HASHES:
+        return 2, []
+    if report[5] == 2 and len(report) < 77:
+        return 11, []
+    if number_at(report, 43, 2) > 64:
+        return 13, []
+    number, sites = sites_of(report)
+    if number == 0 and sum(live for _, _, live, _ in sites) > MOST_LIVE_BYTES:
+        number = 16
+    return number, [] if number else sites
+
+
+def read(report):
+    """The number, and the fields with the sum of live bytes behind them."""
+    number, sites = opened(report)
+    if number:
+        return number, [0] * 11
+    return 0, [number_at(report, at, size) for at, size in FIELDS] + [sum(live for _, _, live, _ in sites)]
+
+
+def site(report, place):
+    """The number, and where the label starts, its length, the live bytes and the live blocks."""
+    number, sites = opened(report)
+    if number == 0 and place >= len(sites):
+        number = 17
+    return (number, (0, 0, 0, 0)) if number else (0, sites[place])
+
+
+def label(report, place):
+    """The number that `site` answers, and the label."""
+    number, (start, length, _, _) = site(report, place)
+    return number, report[start : start + length]
+
+
+def full_tag(number, key, message):
+    return hmac.new(key, message, HASHES[number]).digest()
+
+
+def check(report, tag_key):
+    number, _ = opened(report)
+    if number:
+        return number
+    if len(tag_key) > MOST_KEY_BYTES:
+        return 3
+    presented = report[tag_start(report) :]
+    return int(full_tag(report[5], tag_key, report[: tag_start(report)])[: len(presented)] != presented)
+
+
+def fingerprint_message(report):
+    return report[4:26] + report[34 : tag_start(report)]
+
+
+def fingerprint(report, fingerprint_key, size):
+    """The number, and what an output of this size then holds."""
+    untouched = bytes([UNTOUCHED]) * size
+    number, _ = opened(report)
+    if number:
+        return number, untouched
+    if len(fingerprint_key) > MOST_KEY_BYTES:
+        return 3, untouched
+    if size != 32:
+        return 6, untouched
+    return 0, full_tag(report[5], fingerprint_key, fingerprint_message(report))[:32]
+
+
+def expand_to_digest(number, prk, info):
+    """The PRK expanded to D bytes, which is T(1) and no more."""
+    return full_tag(number, prk, info + b"\1")
+
+
+def key_info(purpose, tenant, machine):
+    return (14).to_bytes(2, "big") + bytes([1, purpose]) + tenant.to_bytes(4, "big") + machine.to_bytes(8, "big")
+
+
+def keys(number, prk, tenant, machine, size):
+    """The number, and what an output of this size then holds."""
+    untouched = bytes([UNTOUCHED]) * size
+    if number not in HASHES:
+        return 2, untouched
+    if len(prk) > MOST_KEY_BYTES:
+        return 3, untouched
+    if size != 2 * DIGEST_BYTES[number]:
+        return 6, untouched
+    if len(prk) < DIGEST_BYTES[number]:
+        return 7, untouched
+    return 0, b"".join(expand_to_digest(number, prk, key_info(purpose, tenant, machine)) for purpose in (1, 2))
