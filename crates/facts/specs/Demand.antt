@@ -17,8 +17,8 @@ use Rattle.algorithm.specs.Checks.{firstFailing}
 use Rattle.hash.specs.Digest.{fromBlocks, digestOf}
 use Rattle.hmac.specs.Form.{formOf, outerPad, SameButZeros}
 use Rattle.hmac.specs.Form.Laws.{forms-same, form-of-digest}
-use Rattle.hmac.specs.Hmac.{innerBlocksOf}
-use Rattle.hmac.specs.Hmac.Laws.{hmac-from-blocks, inner-blocks-same}
+use Rattle.hmac.specs.Hmac.{hmacOf, innerBlocksOf}
+use Rattle.hmac.specs.Hmac.Laws.{hmac-from-blocks, inner-blocks-same, same-form-same-tag}
 use Rattle.report.specs.Layout.{AgreeButSendTime}
 use Rattle.report.specs.Reading.{hashNamed, hashIn, tagStart, beforeTag, readOf, WellFormed}
 use Rattle.report.specs.Reading.Laws.{tag-low, tag-high}
@@ -26,9 +26,8 @@ use Rattle.report.specs.Fingerprint.{messageOf, fingerprintOf}
 use Rattle.report.specs.Fingerprint.Laws.{messages-same}
 use Rattle.report.specs.Calls.{keyChecks}
 
--- Under one hash, take any two pairs of a key that is not refused and a well-formed report naming that hash. The padded blocks that the
--- definition feeds to the inner hash for the fingerprint are the same exactly when the keys have the same block form and the reports
--- agree in every field but the send time.
+-- Two keys that pass their check, and two well-formed reports that name one hash: their fingerprints' inner hashes are fed the same
+-- padded blocks exactly where the keys share a form and the reports differ at most in the send time.
 pub demand-3 : (h : Hash) (key key′ s t : List ℕ)
     → firstFailing (keyChecks key) ≡ done
     → firstFailing (keyChecks key′) ≡ done
@@ -43,12 +42,12 @@ demand-3 h key key′ s t _ _ v w _ _ =
     let messages = messages-same s t v w in
     (λ e. (blocks .0 e .0, messages .0 (blocks .0 e .1)), λ p. blocks .1 (p .0, messages .1 (p .1)))
 
--- Keys of at most one block have the same form exactly when they differ only in zero bytes at the end.
+-- Two keys that fit a block share a form exactly where only zeros at their ends set them apart.
 pub short-keys : (h : Hash) (key key′ : List ℕ) → length key ≤ blockOf h → length key′ ≤ blockOf h
     → formOf h key ≡ formOf h key′ ↔ SameButZeros key key′
 short-keys = forms-same
 
--- A longer key has the form of its digest.
+-- The form of a key beyond a block is that of its digest.
 pub long-key : (h : Hash) (key : List ℕ) → blockOf h < length key → formOf h key ≡ formOf h (digestOf h key)
 long-key = form-of-digest
 
@@ -97,10 +96,10 @@ pub fingerprint-is : (key s : List ℕ)
     → fingerprintOf s key ≡ take 32 (digestOf (hashIn s) (outerPad (hashIn s) key ++ fromBlocks (hashIn s) (innerBlocksOf (hashIn s) key (messageOf s))))
 fingerprint-is key s = ap (take 32) (hmac-from-blocks (hashIn s) key (messageOf s))
 
--- so under one hash two keys of one form and two reports that feed the inner hash the same blocks have one fingerprint.
-pub fingerprint-from-blocks : (h : Hash) (key key′ s t : List ℕ) → hashIn s ≡ h → hashIn t ≡ h → formOf h key ≡ formOf h key′
+-- and from the form of the key: under one hash, where the inner hashes are fed the same blocks, there is one fingerprint.
+pub fingerprint-from-blocks : (h : Hash) (key key′ s t : List ℕ) → hashIn s ≡ h → hashIn t ≡ h
     → innerBlocksOf h key (messageOf s) ≡ innerBlocksOf h key′ (messageOf t)
     → fingerprintOf s key ≡ fingerprintOf t key′
-unfolding outerPad
-fingerprint-from-blocks h key key′ s t hs ht f b =
-    rw (fingerprint-is key s, fingerprint-is key′ t, hs, ht, f, b)
+fingerprint-from-blocks h key key′ s t hs ht b =
+    let same = inner-blocks-same h key key′ (messageOf s) (messageOf t) .0 b in
+    rw (hs, ht) (ap (take 32) (same-form-same-tag h key key′ (messageOf s) (same .0) ∙ ap (hmacOf h key′) (same .1)))

@@ -9,7 +9,7 @@ use lib.Seq.{take-all, take-length, take-at, take-nil, take-take, drop-drop, pas
 use borrow.Rule.Slice.PartMut.{putMid}
 use Rattle.octets.specs.Copy.{over}
 use Rattle.octets.specs.Copy.Laws.{over-short}
-use Rattle.octets.specs.Every.Laws.{every-drop, zeros-all, all-zeros}
+use Rattle.octets.specs.Every.Laws.{drop-zeros}
 
 -- a part from a place to the end, as a loan has it
 pub part-all : (l : List ℕ) (n at : ℕ) → length l ≡ n → take (n - at) (drop at l) ≡ drop at l
@@ -49,13 +49,7 @@ take-pasted l at q h = take-paste l at q (length q) (omega arith) (le-refl (leng
 
 -- zeros, with a list written over their beginning
 pub paste-zeros : (n : ℕ) (q : List ℕ) → paste (replicate n 0) 0 q (length q) ≡ q ++ replicate (n - length q) 0
-paste-zeros n q =
-    let o : List ℕ = replicate n 0 in
-    let z : drop (length q) o ≡ replicate (n - length q) 0 =
-    all-zeros (drop (length q) o) (every-drop _ (length q) o (zeros-all n))
-    ∙ ap (λ (k : ℕ). replicate k 0) (length-drop (length q) o ∙ ap (λ (k : ℕ). k - length q) (length-replicate n 0))
-    in
-    rw (zero-add, take-length q, z)
+paste-zeros n q = rw (zero-add, take-length q, drop-zeros (length q) n)
 
 -- the beginning of one element repeated
 pub take-replicate : (k n a : ℕ) → k ≤ n → take k (replicate n a) ≡ replicate k a

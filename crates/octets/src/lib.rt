@@ -6,5 +6,6 @@ mod zero;
 
 pub use compare::same;
 pub use copy::copy_prefix;
+pub use numbers::copy_numbers;
 pub use numbers::eight_bytes;
 pub use zero::all_zero;

@@ -1,5 +1,6 @@
-// Numbers as bytes, big-endian.
+// Numbers: their bytes, big-endian, and copying them.
 ghost use mathlib.Core.Path.{_≡_};
+ghost use Rattle.octets.specs.Copy.{over};
 ghost use Rattle.octets.specs.Number.{bytes};
 
 // The eight bytes of a number.
@@ -16,4 +17,15 @@ pub fn eight_bytes(x: u64) -> [u8; 8]
         (x / 256 % 256) as u8,
         (x % 256) as u8,
     ]
+}
+
+// Writes the beginning of `src` over the beginning of `out`, as far as both go.
+pub fn copy_numbers(src: &[u64], out: &mut [u64])
+    ensures { λ _. ⌜ now (out .exit) ≡ over (now (src .entry)) (now (out .entry)) ⌝ }
+{
+    let mut i = 0;
+    while i < src.len() && i < out.len() {
+        out[i] = src[i];
+        i += 1;
+    }
 }

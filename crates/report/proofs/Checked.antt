@@ -8,7 +8,8 @@ use lib.ListN.{length}
 use Rattle.octets.specs.Number.{numberAt}
 use Rattle.algorithm.specs.Hashes.{names, hashOf, shortestOf}
 use Rattle.algorithm.specs.Refusals.{done}
-use Rattle.algorithm.specs.Checks.{Check, firstFailing, decided}
+use Rattle.algorithm.specs.Checks.{firstFailing}
+use Rattle.algorithm.specs.Checks.Laws.{done-work}
 use Rattle.report.specs.Layout.{liveOf}
 use Rattle.report.specs.Reading.{hashIn, tagStart, sitesIn, readChecks}
 use Rattle.report.specs.Reading.Laws.{Passed, passed}
@@ -24,9 +25,6 @@ pub record Read (s : List ℕ) (r : Checked) : Type 0 where
   pub sites : r .sites ≡ numberAt s 43 2
   pub live : r .live ≡ liveOf (sitesIn s .1)
 
-worked : (cs : List Check) (work given : ℕ) → firstFailing cs ≡ done → decided cs work given ≡ work
-worked cs work given e = rw e
-
 module _ (s : List ℕ) {r : Checked} (e : r ≡ checkedOf s) where
   pub number : r .number ≡ firstFailing (readChecks s)
   number = ap (λ (x : Checked). x .number) e
@@ -39,10 +37,10 @@ module _ (s : List ℕ) {r : Checked} (e : r ≡ checkedOf s) where
       let n : firstFailing (readChecks s) ≡ done = sym number ∙ d in
       record {
         passes = passed s n;
-        hash = ap (λ (x : Checked). x .hash) e ∙ worked (readChecks s) (numberAt s 5 1) 0 n;
-        end = ap (λ (x : Checked). x .end) e ∙ worked (readChecks s) (tagStart s) 0 n;
-        sites = ap (λ (x : Checked). x .sites) e ∙ worked (readChecks s) (numberAt s 43 2) 0 n;
-        live = ap (λ (x : Checked). x .live) e ∙ worked (readChecks s) (liveOf (sitesIn s .1)) 0 n;
+        hash = ap (λ (x : Checked). x .hash) e ∙ done-work (readChecks s) (numberAt s 5 1) 0 n;
+        end = ap (λ (x : Checked). x .end) e ∙ done-work (readChecks s) (tagStart s) 0 n;
+        sites = ap (λ (x : Checked). x .sites) e ∙ done-work (readChecks s) (numberAt s 43 2) 0 n;
+        live = ap (λ (x : Checked). x .live) e ∙ done-work (readChecks s) (liveOf (sitesIn s .1)) 0 n;
       }
 
 -- the hash of such a report is made, and its tag stands behind 45 bytes

@@ -1,10 +1,9 @@
 -- The checks before the sites: what they answer once the first of them are known. Assumes nothing.
 use mathlib.Core.Path.{_≡_, sym, ap, ap₂, _∙_}
 use mathlib.Core.Bool.{true, false}
-use mathlib.Core.List.{List, [], _∷_}
+use mathlib.Core.List.{List}
 use Prim.Native.Nat.{ℕ, _+_, _-_, _≤_, _<_}
 use native.Mathlib.Omega.{arith}
-use lib.Dec.{leb}
 use lib.ListN.{length, take, drop}
 use borrow.Author.Tests.{leb-true, le-leb, lt-leb, ne-eqb}
 use Rattle.octets.specs.Number.{numberAt}
@@ -12,15 +11,15 @@ use Rattle.algorithm.specs.declared.hashes.Hash.{Hash}
 use Rattle.algorithm.specs.declared.hashes.Named.the-variants.{Is, Unknown}
 use Rattle.algorithm.specs.Hashes.{shortestOf}
 use Rattle.algorithm.specs.Refusals.{done, unknownHash, wrongReportLength, tooManySites}
-use Rattle.algorithm.specs.Checks.{Check, check, firstFailing, Pass, Refusing}
+use Rattle.algorithm.specs.Checks.{firstFailing, Pass, Refusing}
 use Rattle.algorithm.specs.Checks.Pass.{and}
 use Rattle.algorithm.specs.Checks.Refusing.{none}
 use Rattle.algorithm.specs.Checks.Laws.{done-passes, append-refuses, append-passes}
 use Rattle.report.specs.Layout.{Site, liveOf}
-use Rattle.report.specs.Reading.{namesHash, namedIn, hashIn, tagStart, readSites, sitesIn, headChecks, sitesChecks, readChecks}
+use Rattle.report.specs.Reading.{namesHash, namedIn, hashIn, tagStart, readSites, sitesIn, startChecks, hashChecks, sitesChecks, readChecks}
 use Rattle.report.specs.Reading.Laws.{refuses}
 use Rattle.report.specs.Calls.Laws.{named-unknown, named-is}
-use Rattle.report.specs.Inside.{startChecks, stoppedHead, headOf, stopped, checkedOf, Walked}
+use Rattle.report.specs.Inside.{headChecks, stoppedHead, headOf, stopped, checkedOf, Walked}
 use Rattle.report.specs.declared.checks.Head.{Head}
 use Rattle.report.specs.declared.walk.Counted.{Counted}
 
@@ -33,14 +32,6 @@ module _ (s : List ℕ) where
     pub hash-known : (h : Hash) → namedIn n ≡ Is h → (namesHash (numberAt s 5 1) ≡ true) × (hashIn s ≡ h)
     hash-known h u = named-is (numberAt s 5 1) h (ap namedIn (sym e) ∙ u)
 
-  -- the checks of the hash and of the number of sites
-  abbrev hashChecks : List Check
-  hashChecks =
-      check (namesHash (numberAt s 5 1)) unknownHash
-      ∷ check (leb (45 + shortestOf (hashIn s)) (length s)) wrongReportLength
-      ∷ check (leb (numberAt s 43 2) 64) tooManySites
-      ∷ []
-
   start-refusing : Refusing (startChecks s)
   start-refusing = refuses _ _ (refuses _ _ (refuses _ _ none))
 
@@ -49,7 +40,7 @@ module _ (s : List ℕ) where
 
   -- one of the first checks refuses
   pub start-refuses : (n : ℕ) → n ≡ firstFailing (startChecks s) → (n ≡ done → ⊥) → stoppedHead n ≡ headOf s
-  start-refuses n e z = refused n (append-refuses (startChecks s) hashChecks (λ d. z (e ∙ d)) ∙ sym e) z
+  start-refuses n e z = refused n (append-refuses (startChecks s) (hashChecks s) (λ d. z (e ∙ d)) ∙ sym e) z
 
   module _ (e : firstFailing (startChecks s) ≡ done) where
     long : Pass (startChecks s) → 61 ≤ length s
@@ -58,8 +49,8 @@ module _ (s : List ℕ) where
     pub start-long : 61 ≤ length s
     start-long = long (done-passes (startChecks s) start-refusing e)
 
-    rest : firstFailing (headChecks s) ≡ firstFailing hashChecks
-    rest = append-passes (startChecks s) hashChecks e start-refusing
+    rest : firstFailing (headChecks s) ≡ firstFailing (hashChecks s)
+    rest = append-passes (startChecks s) (hashChecks s) e start-refusing
 
     -- the hash is unknown
     pub head-unknown : namesHash (numberAt s 5 1) ≡ false → stoppedHead unknownHash ≡ headOf s

@@ -4,16 +4,16 @@ pub mod Laws
 pub mod Unique
 use mathlib.Core.Path.{_≡_}
 use mathlib.Core.List.{List, [], _∷_, _++_}
-use Prim.Native.Nat.{ℕ, zero, suc, _+_, _*_}
+use Prim.Native.Nat.{ℕ, zero, suc, _+_, _*_, _≤_}
 use lib.Dec.{leb, ltb, eqb}
-use lib.ListN.{length, drop, getD}
+use lib.ListN.{length, take, drop, getD}
 use Rattle.octets.specs.Same.{equal}
 use Rattle.algorithm.specs.Hashes.{sizeOf, shortestOf}
-use Rattle.algorithm.specs.Refusals.{tagDiffers, unknownHash, keyTooLong, wrongSize, prkTooShort, noSuchSite, mostBytes}
+use Rattle.algorithm.specs.Refusals.{done, tagDiffers, unknownHash, keyTooLong, wrongSize, prkTooShort, noSuchSite, mostBytes}
 use Rattle.algorithm.specs.Checks.{Check, check, firstFailing, decided, answered}
 use Rattle.hmac.specs.Hmac.{tagOf}
 use Rattle.report.specs.Layout.{Site, Fields, liveOf}
-use Rattle.report.specs.Reading.{namesHash, hashNamed, hashIn, tagStart, beforeTag, sitesIn, readChecks, readOf}
+use Rattle.report.specs.Reading.{namesHash, hashNamed, hashIn, tagStart, beforeTag, sitesIn, readChecks, fieldsOf, readOf}
 use Rattle.report.specs.Fingerprint.{fingerprintOf}
 use Rattle.report.specs.Keys.{keysOf}
 use Rattle.report.specs.declared.reading.Reading.{Reading}
@@ -39,6 +39,31 @@ readingOf r = record {
 abbrev pub ReadOutcome : List ℕ → Reading → Type 0
 ReadOutcome s r = r ≡ readingOf (readOf s)
 
+-- read_into(report, fields): the same numbers in a list
+abbrev pub numbersOf : Fields → List ℕ
+numbersOf f =
+    f .count
+    ∷ f .version
+    ∷ f .hash
+    ∷ f .tenant
+    ∷ f .machine
+    ∷ f .report
+    ∷ f .sent
+    ∷ f .attempt
+    ∷ f .memory
+    ∷ length (f .sites)
+    ∷ liveOf (f .sites)
+    ∷ []
+
+abbrev pub readIntoChecks : List ℕ → List ℕ → List Check
+readIntoChecks s fields = readChecks s ++ (check (eqb (length fields) 11) wrongSize ∷ [])
+
+pub readIntoAnswer : List ℕ → List ℕ → ℕ × List ℕ
+readIntoAnswer s fields = answered (readIntoChecks s fields) (numbersOf (fieldsOf s)) fields
+
+abbrev pub ReadIntoOutcome : List ℕ → List ℕ → ℕ → List ℕ → Type 0
+ReadIntoOutcome s fields r after = _≡_ {A = ℕ × List ℕ} (r, after) (readIntoAnswer s fields)
+
 -- the site at a place, and where it starts behind the first one
 abbrev pub noSite : Site
 noSite = record { label = []; live = 0; blocks = 0 }
@@ -55,17 +80,36 @@ before (x ∷ xs) (suc i) = length (x .label) + 13 + before xs i
 abbrev pub placeChecks : List ℕ → ℕ → List Check
 placeChecks s place = readChecks s ++ (check (ltb place (length (sitesIn s .1))) noSuchSite ∷ [])
 
-pub siteAnswer : List ℕ → ℕ → SiteAt
-siteAnswer s place = record {
-  number = firstFailing (placeChecks s place);
-  start = decided (placeChecks s place) (46 + before (sitesIn s .1) place) 0;
-  length = decided (placeChecks s place) (length (siteOf (sitesIn s .1) place .label)) 0;
-  live = decided (placeChecks s place) (siteOf (sitesIn s .1) place .live) 0;
-  blocks = decided (placeChecks s place) (siteOf (sitesIn s .1) place .blocks) 0;
+abbrev pub foundSite : List Site → ℕ → SiteAt
+foundSite xs place = record {
+  number = done;
+  start = 46 + before xs place;
+  length = length (siteOf xs place .label);
+  live = siteOf xs place .live;
+  blocks = siteOf xs place .blocks;
 }
+
+abbrev pub refusedSite : ℕ → SiteAt
+refusedSite n = record { number = n; start = 0; length = 0; live = 0; blocks = 0 }
+
+pub siteAnswer : List ℕ → ℕ → SiteAt
+siteAnswer s place = decided (placeChecks s place) (foundSite (sitesIn s .1) place) (refusedSite (firstFailing (placeChecks s place)))
 
 abbrev pub SiteOutcome : List ℕ → ℕ → SiteAt → Type 0
 SiteOutcome s place r = r ≡ siteAnswer s place
+
+-- site_into(report, place, numbers): the same numbers in a list
+abbrev pub siteNumbers : List Site → ℕ → List ℕ
+siteNumbers xs place = (46 + before xs place) ∷ length (siteOf xs place .label) ∷ siteOf xs place .live ∷ siteOf xs place .blocks ∷ []
+
+abbrev pub siteIntoChecks : List ℕ → ℕ → List ℕ → List Check
+siteIntoChecks s place numbers = placeChecks s place ++ (check (eqb (length numbers) 4) wrongSize ∷ [])
+
+pub siteIntoAnswer : List ℕ → ℕ → List ℕ → ℕ × List ℕ
+siteIntoAnswer s place numbers = answered (siteIntoChecks s place numbers) (siteNumbers (sitesIn s .1) place) numbers
+
+abbrev pub SiteIntoOutcome : List ℕ → ℕ → List ℕ → ℕ → List ℕ → Type 0
+SiteIntoOutcome s place numbers r after = _≡_ {A = ℕ × List ℕ} (r, after) (siteIntoAnswer s place numbers)
 
 -- label(report, place, number)
 pub labelAnswer : List ℕ → ℕ → ℕ × List ℕ
@@ -73,6 +117,11 @@ labelAnswer s place = answered (placeChecks s place) (siteOf (sitesIn s .1) plac
 
 abbrev pub LabelOutcome : List ℕ → ℕ → ℕ → List ℕ → Type 0
 LabelOutcome s place r part = _≡_ {A = ℕ × List ℕ} (r, part) (labelAnswer s place)
+
+-- a site's numbers point to a label in the report
+pub record Points (s : List ℕ) (label : List ℕ) (r : SiteAt) : Type 0 where
+  pub room : r .start + r .length ≤ length s
+  pub is : take (r .length) (drop (r .start) s) ≡ label
 
 -- the check of a report's key
 abbrev pub keyChecks : List ℕ → List Check

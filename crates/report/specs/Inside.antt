@@ -1,16 +1,16 @@
 -- What the private functions ask and promise. Assumes nothing.
 use mathlib.Core.Path.{_≡_}
 use mathlib.Core.Bool.{Bool, true, false, cond, _||_}
-use mathlib.Core.List.{List, [], _∷_}
+use mathlib.Core.List.{List, [], _∷_, _++_}
 use Prim.Native.Nat.{ℕ, suc, _+_, _-_, _*_, _^_, _≤_, _<_}
-use lib.Dec.{leb, ltb, eqb}
+use lib.Dec.{ltb}
 use lib.ListN.{length, take, drop, getD}
 use Rattle.octets.specs.Number.{numberAt}
 use Rattle.algorithm.specs.Hashes.{names, hashOf, blockOf, sizeOf}
-use Rattle.algorithm.specs.Refusals.{done, wrongReportLength, unknownVersion, sitesMisplaced, sumTooLarge, mostBytes}
-use Rattle.algorithm.specs.Checks.{Check, check, firstFailing, decided}
+use Rattle.algorithm.specs.Refusals.{done, sitesMisplaced, sumTooLarge, mostBytes}
+use Rattle.algorithm.specs.Checks.{Check, firstFailing, decided}
 use Rattle.report.specs.Layout.{Site, liveOf}
-use Rattle.report.specs.Reading.{tagStart, withSite, readSites, sitesIn, mostLive, headChecks, sitesChecks, readChecks, noFields}
+use Rattle.report.specs.Reading.{tagStart, withSite, readSites, sitesIn, mostLive, startChecks, hashChecks, sitesChecks, readChecks, fieldsOf, noFields}
 use Rattle.report.specs.Calls.{readingOf, siteOf, before}
 use Rattle.report.specs.declared.walk.Step.{Step}
 use Rattle.report.specs.declared.walk.Sum.{Sum}
@@ -18,7 +18,6 @@ use Rattle.report.specs.declared.walk.Counted.{Counted}
 use Rattle.report.specs.declared.checks.Head.{Head}
 use Rattle.report.specs.declared.checks.Checked.{Checked}
 use Rattle.report.specs.declared.reading.Reading.{Reading}
-use Rattle.report.specs.declared.sites.SiteAt.{SiteAt}
 
 -- a number is that of some bytes from a place on, and so has so many bits
 pub record NumberIs (s : List ℕ) (at size n : ℕ) : Type 0 where
@@ -67,13 +66,9 @@ pub record Walked (body : List ℕ) (sites : ℕ) (r : Counted) : Type 0 where
   pub number : r .number ≡ firstFailing (sitesChecks (readSites sites (drop 45 body)))
   pub live : r .number ≡ done → r .live ≡ liveOf (readSites sites (drop 45 body) .1)
 
--- the first checks, and with those of the hash and of the number of sites all before the sites, with where the tag starts
-abbrev pub startChecks : List ℕ → List Check
-startChecks s =
-    check (leb 61 (length s)) wrongReportLength
-    ∷ check (eqb (numberAt s 0 4) (length s - 4)) wrongReportLength
-    ∷ check (eqb (numberAt s 4 1) 1) unknownVersion
-    ∷ []
+-- the checks before the sites, with where the tag starts
+abbrev pub headChecks : List ℕ → List Check
+headChecks s = startChecks s ++ hashChecks s
 
 abbrev pub stoppedHead : ℕ → Head
 stoppedHead n = record { number = n; end = 0 }
@@ -101,32 +96,34 @@ refusedReading n = readingOf (n, noFields)
 abbrev pub headReading : List ℕ → ℕ → Reading
 headReading s live = record {
   number = done;
-  count = numberAt s 0 4;
-  version = numberAt s 4 1;
-  hash = numberAt s 5 1;
-  tenant = numberAt s 6 4;
-  machine = numberAt s 10 8;
-  report = numberAt s 18 8;
-  sent = numberAt s 26 8;
-  attempt = numberAt s 34 1;
-  memory = numberAt s 35 8;
+  count = fieldsOf s .count;
+  version = fieldsOf s .version;
+  hash = fieldsOf s .hash;
+  tenant = fieldsOf s .tenant;
+  machine = fieldsOf s .machine;
+  report = fieldsOf s .report;
+  sent = fieldsOf s .sent;
+  attempt = fieldsOf s .attempt;
+  memory = fieldsOf s .memory;
   sites = numberAt s 43 2;
   live = live;
 }
 
--- what is answered for a place that is refused
-abbrev pub refusedSite : ℕ → SiteAt
-refusedSite n = record { number = n; start = 0; length = 0; live = 0; blocks = 0 }
-
--- and for a place at which there is a site
-abbrev pub foundSite : List Site → ℕ → SiteAt
-foundSite xs place = record {
-  number = done;
-  start = 46 + before xs place;
-  length = length (siteOf xs place .label);
-  live = siteOf xs place .live;
-  blocks = siteOf xs place .blocks;
-}
+-- the numbers of a reading in a list
+abbrev pub listOf : Reading → List ℕ
+listOf r =
+    r .count
+    ∷ r .version
+    ∷ r .hash
+    ∷ r .tenant
+    ∷ r .machine
+    ∷ r .report
+    ∷ r .sent
+    ∷ r .attempt
+    ∷ r .memory
+    ∷ r .sites
+    ∷ r .live
+    ∷ []
 
 -- the sites of a report's body
 abbrev pub bodySites : List ℕ → ℕ × List Site

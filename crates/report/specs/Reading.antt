@@ -38,6 +38,10 @@ tagStart s = length s - shortestOf (hashIn s)
 abbrev pub beforeTag : List ℕ → List ℕ
 beforeTag s = take (tagStart s) s
 
+-- the site whose label's length stands before some bytes: the label, live bytes, live blocks
+abbrev pub firstSite : ℕ → List ℕ → Site
+firstSite size l = record { label = take size l; live = numberAt l size 8; blocks = numberAt l (size + 8) 4 }
+
 -- a number and some sites, with a site put before them
 abbrev pub withSite : Site → ℕ × List Site → ℕ × List Site
 withSite x w = (w .0, x ∷ w .1)
@@ -50,7 +54,7 @@ readSites (suc n) [] = (sitesMisplaced, [])
 readSites (suc n) (size ∷ l) =
     cond (leb 1 size && leb size 48)
     (cond (leb (size + 12) (length l))
-    (withSite (record { label = take size l; live = numberAt l size 8; blocks = numberAt l (size + 8) 4 }) (readSites n (drop (size + 12) l)))
+    (withSite (firstSite size l) (readSites n (drop (size + 12) l)))
     (sitesMisplaced, []))
     (labelLengthOutOfRange, [])
 
@@ -61,13 +65,17 @@ sitesIn s = readSites (numberAt s 43 2) (drop 45 (beforeTag s))
 abbrev pub mostLive : ℕ
 mostLive = 18446744073709551615
 
--- the checks before the sites, those of the sites, and all
-abbrev pub headChecks : List ℕ → List Check
-headChecks s =
+-- the checks of length, count and version, those of the hash and of the number of sites, those of the sites, and all
+abbrev pub startChecks : List ℕ → List Check
+startChecks s =
     check (leb 61 (length s)) wrongReportLength
     ∷ check (eqb (numberAt s 0 4) (length s - 4)) wrongReportLength
     ∷ check (eqb (numberAt s 4 1) 1) unknownVersion
-    ∷ check (namesHash (numberAt s 5 1)) unknownHash
+    ∷ []
+
+abbrev pub hashChecks : List ℕ → List Check
+hashChecks s =
+    check (namesHash (numberAt s 5 1)) unknownHash
     ∷ check (leb (45 + shortestOf (hashIn s)) (length s)) wrongReportLength
     ∷ check (leb (numberAt s 43 2) 64) tooManySites
     ∷ []
@@ -76,7 +84,7 @@ abbrev pub sitesChecks : ℕ × List Site → List Check
 sitesChecks w = check (eqb (w .0) done) (w .0) ∷ check (leb (liveOf (w .1)) mostLive) sumTooLarge ∷ []
 
 abbrev pub readChecks : List ℕ → List Check
-readChecks s = headChecks s ++ sitesChecks (sitesIn s)
+readChecks s = startChecks s ++ (hashChecks s ++ sitesChecks (sitesIn s))
 
 -- the fields, each at its place
 abbrev pub fieldsOf : List ℕ → Fields

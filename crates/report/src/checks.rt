@@ -1,7 +1,8 @@
 // The checks of a report in their order.
 ghost use mathlib.Core.Path.{_≡_};
 ghost use Rattle.algorithm.specs.Checks.{firstFailing};
-ghost use Rattle.report.specs.Inside.{startChecks, headOf, stoppedHead, checkedOf, stopped};
+ghost use Rattle.report.specs.Reading.{startChecks};
+ghost use Rattle.report.specs.Inside.{headOf, stoppedHead, checkedOf, stopped};
 use crate::format::HEAD;
 use crate::format::MOST_SITES;
 use crate::format::SMALLEST;

@@ -10,6 +10,8 @@ pub(crate) const HEAD: usize = 45;
 pub(crate) const SMALLEST: usize = 61;
 // The most sites.
 pub(crate) const MOST_SITES: u64 = 64;
+// The most live bytes in all.
+pub(crate) const MOST_LIVE: u64 = 18446744073709551615;
 // The most bytes of a label.
 pub(crate) const LONGEST_LABEL: usize = 48;
 // The bytes of a site beside its label: the label's length, live bytes and live blocks.

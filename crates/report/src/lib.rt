@@ -3,6 +3,7 @@ mod checks;
 mod derivation;
 mod fingerprints;
 mod format;
+mod lists;
 mod numbers;
 mod reading;
 mod sites;
@@ -11,6 +12,8 @@ mod walk;
 
 pub use derivation::keys;
 pub use fingerprints::fingerprint;
+pub use lists::read_into;
+pub use lists::site_into;
 pub use reading::Reading;
 pub use reading::read;
 pub use sites::SiteAt;

@@ -1,7 +1,7 @@
 // The site at a place, counted from 0.
 ghost use mathlib.Core.Path.{_≡_};
-ghost use Rattle.report.specs.Calls.{SiteOutcome, LabelOutcome};
-ghost use Rattle.report.specs.Inside.{refusedSite, foundSite, bodySites, Standing, StartIs};
+ghost use Rattle.report.specs.Calls.{refusedSite, foundSite, SiteOutcome, LabelOutcome};
+ghost use Rattle.report.specs.Inside.{bodySites, Standing, StartIs};
 use crate::checks::check_report;
 use crate::format::BESIDE_LABEL;
 use crate::format::HEAD;

@@ -6,6 +6,7 @@ ghost use Rattle.report.specs.Inside.{Stepped, plusOf, endOf, Walked};
 use crate::format::BESIDE_LABEL;
 use crate::format::HEAD;
 use crate::format::LONGEST_LABEL;
+use crate::format::MOST_LIVE;
 use crate::numbers::number_at;
 
 // One site: the number that refuses it, where the next one starts, and its live bytes.
@@ -56,7 +57,7 @@ pub struct Sum {
 fn plus(sum: Sum, live: u64) -> Sum
     ensures { λ r. ⌜ r ≡ plusOf sum live ⌝ }
 {
-    if sum.over || 18446744073709551615 - sum.live < live {
+    if sum.over || MOST_LIVE - sum.live < live {
         return Sum {
             over: true,
             live: 0,

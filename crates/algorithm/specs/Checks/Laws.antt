@@ -10,7 +10,7 @@ use Rattle.algorithm.specs.Refusals.{done}
 use Rattle.algorithm.specs.Checks.{Check, firstFailing, decided, Pass, Fail, Refusing}
 use Rattle.algorithm.specs.Checks.Pass.{all, and}
 use Rattle.algorithm.specs.Checks.Fail.{here, later}
-use Rattle.algorithm.specs.Checks.Refusing.{more}
+use Rattle.algorithm.specs.Checks.Refusing.{none, more}
 
 -- a test came out one way or the other
 data Test (b : Bool) : Type 0 where
@@ -66,6 +66,10 @@ append-passes (c ∷ a) b e (more z r) = elim (test (c .passes)) [
   | no t ↦ absurd (z t (rw t at e))
 ]
 
+pub refusing-append : (a b : List Check) → Refusing a → Refusing b → Refusing (a ++ b)
+refusing-append [] b none r = r
+refusing-append (c ∷ a) b (more z q) r = more z (refusing-append a b q r)
+
 -- where every check passes the work stands, and where one fails what was given
 module _ {ℓ} {A : Type ℓ} {cs : List Check} (work given : A) where
   pub decided-work : Pass cs → decided cs work given ≡ work
@@ -74,7 +78,10 @@ module _ {ℓ} {A : Type ℓ} {cs : List Check} (work given : A) where
   pub decided-given : {n : ℕ} → (n ≡ done → ⊥) → Fail cs n → decided cs work given ≡ given
   decided-given z f = rw (ne-eqb (firstFailing cs) done (λ e. z (sym (fails-number f) ∙ e)))
 
--- so a refused call leaves what was given
+-- so a call that is done leaves the work, and a refused one what was given
+pub done-work {ℓ} : {A : Type ℓ} (cs : List Check) (work given : A) → firstFailing cs ≡ done → decided cs work given ≡ work
+done-work cs work given e = rw e
+
 pub refused-given {ℓ} : {A : Type ℓ} (cs : List Check) (work given : A) → (firstFailing cs ≡ done → ⊥) → decided cs work given ≡ given
 refused-given cs work given z = rw (ne-eqb (firstFailing cs) done z)
 

@@ -4,15 +4,10 @@ use mathlib.Core.Bool.{Bool, true, false, cond}
 use Prim.Native.Nat.{ℕ, _*_, _≤_, _<_}
 use native.Mathlib.Omega.{arith}
 use lib.Dec.{lit<, lit≤}
-use Rattle.algorithm.specs.Hashes.{numberOf, blockOf, sizeOf, shortestOf, names, hashOf, whichOf}
+use Rattle.algorithm.specs.Hashes.{blockOf, sizeOf, shortestOf, names, hashOf, whichOf}
 use Rattle.algorithm.specs.declared.hashes.Hash.{Hash}
 use Rattle.algorithm.specs.declared.hashes.Hash.the-variants.{Sha256, Sha512}
 use Rattle.algorithm.specs.declared.hashes.Named.the-variants.{Is, Unknown}
-
--- the number of a hash names it
-pub number-names : (h : Hash) → (names (numberOf h) ≡ true) × (hashOf (numberOf h) ≡ h)
-number-names Sha256 = (refl, refl)
-number-names Sha512 = (refl, refl)
 
 -- an answer by a test, `Is` or `Unknown`, says how the test came out, and which hash it was
 pub unknown : (b : Bool) (h : Hash) → cond b (Is h) Unknown ≡ Unknown → b ≡ false

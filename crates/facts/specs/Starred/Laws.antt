@@ -18,7 +18,7 @@ use Rattle.hash.specs.Digest.Laws.{count-of-blocks}
 use Rattle.hmac.specs.Form.{formOf, innerPad, outerPad}
 use Rattle.report.specs.Layout.{Fields, liveOf}
 use Rattle.report.specs.Reading.{beforeTag, readSites, readOf, WellFormed}
-use Rattle.report.specs.Fingerprint.{messageOf}
+use Rattle.report.specs.Fingerprint.{gapStart, gapEnd, messageOf}
 use Rattle.report.specs.Keys.{infoOf}
 use Rattle.facts.specs.Demand.{tag-no-field}
 use Rattle.facts.specs.Starred.{worked, workedFields, Starred}
@@ -47,7 +47,7 @@ zero-well-formed = record { bytes = refl; reads = ap (λ (r : ℕ × Fields). r 
 -- and its message has 22 bytes before the gap, and 26 behind it
 worked-length : (tag : List ℕ) → length tag ≡ 16 → length (messageOf (worked ++ tag)) ≡ 48
 unfolding messageOf
-worked-length tag e = ap (λ (l : List ℕ). length (slice 4 26 (worked ++ tag) ++ drop 34 l)) (before-tag tag e)
+worked-length tag e = ap (λ (l : List ℕ). length (slice 4 gapStart (worked ++ tag) ++ drop gapEnd l)) (before-tag tag e)
 
 -- the forms, for each hash
 zero-behind : (h : Hash) → formOf h (0x01 ∷ []) ≡ formOf h (0x01 ∷ 0x00 ∷ [])

@@ -30,16 +30,13 @@ started n k = record { number = n; keyed = k }
 abbrev pub fed : ℕ → Keyed → Fed
 fed n k = record { number = n; keyed = k }
 
--- a tag length in its range, and one on either side of it
+-- a tag length in its range, and one below it
 module _ (h : Hash) (t : ℕ) where
   pub length-allowed : shortestOf h ≤ t → t ≤ sizeOf h → allowed h t ≡ true
   length-allowed l u = rw (le-leb (shortestOf h) t l) (le-leb t (sizeOf h) u)
 
   pub length-below : t < shortestOf h → allowed h t ≡ false
   length-below l = rw (lt-leb (shortestOf h) t l)
-
-  pub length-above : shortestOf h ≤ t → sizeOf h < t → allowed h t ≡ false
-  length-above l u = rw (le-leb (shortestOf h) t l) (lt-leb t (sizeOf h) u)
 
   pub allowed-most : allowed h t ≡ true → t ≤ sizeOf h
   allowed-most e = leb-true t (sizeOf h) (and-parts (leb (shortestOf h) t) (leb t (sizeOf h)) e .1)
@@ -187,7 +184,7 @@ module _ (r : ℕ) (refusal : r ≡ done → ⊥) where
   verify-message-exactly n key m t presented = exactly _ r refusal
 
 -- once no other check fails, verify says yes exactly to the tag
-says-yes : (a b : List ℕ) → cond (equal a b) done tagDiffers ≡ done ↔ (a ≡ b)
+pub says-yes : (a b : List ℕ) → cond (equal a b) done tagDiffers ≡ done ↔ (a ≡ b)
 says-yes a b = (λ e. equal-tells a b .true-equal (yes (equal a b) e), λ e. ap (λ (x : Bool). cond x done tagDiffers) (equal-tells a b .equal-true e))
   where
     yes : (x : Bool) → cond x done tagDiffers ≡ done → x ≡ true

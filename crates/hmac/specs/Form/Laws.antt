@@ -8,7 +8,7 @@ use native.Mathlib.Decide.{decLe}
 use native.Mathlib.Omega.{arith}
 use lib.Arith.{bin-ind, digits-div, digits-mod}
 use lib.Bits.{differ, bitXor, xor-step, xor-self}
-use lib.ListN.{length, take, replicate, length-append, length-map, length-replicate, replicate-append-replicate}
+use lib.ListN.{length, take, replicate, length-map, replicate-append-replicate}
 use lib.Seq.{take-append-add}
 use borrow.Author.Tests.{le-leb, lt-leb}
 use Rattle.octets.specs.Parts.{take-replicate}
@@ -18,6 +18,7 @@ use Rattle.algorithm.specs.Hashes.Laws.{digest-fits-block}
 use Rattle.hash.specs.Digest.{digestOf}
 use Rattle.hash.specs.Digest.Laws.{digest-length}
 use Rattle.octets.specs.Zeros.{zerosTo}
+use Rattle.octets.specs.Zeros.Laws.{zeros-length}
 use Rattle.hmac.specs.Form.{formOf, masked, innerPad, outerPad, SameButZeros}
 
 -- a digit with another is a digit, and with it once more itself
@@ -70,9 +71,6 @@ masked-injective x (c ∷ a) (d ∷ b) e =
     ap₂ _∷_ (xor-injective x c d u) (masked-injective x a b t)
 
 -- zeros behind bytes: how many there are, and that zeros more behind them play no part
-zeros-length : (n : ℕ) (l : List ℕ) → length l ≤ n → length (zerosTo n l) ≡ n
-zeros-length n l h = simp (length-append, length-replicate) (omega arith)
-
 zeros-front : (n p : ℕ) (l : List ℕ) → length l ≤ n → take n ((l ++ replicate p 0) ++ replicate n 0) ≡ zerosTo n l
 zeros-front n p l h =
     let e : n ≡ length l + (n - length l) = omega arith in

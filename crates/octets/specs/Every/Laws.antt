@@ -2,11 +2,11 @@
 use mathlib.Core.Path.{_≡_, refl, sym, ap, _∙_}
 use mathlib.Core.Bool.{Bool, true, false, _&&_, true≢false, and-true, and-assoc}
 use mathlib.Core.List.{List, [], _∷_, _++_}
-use Prim.Native.Nat.{ℕ, zero, suc, _+_, _<_}
+use Prim.Native.Nat.{ℕ, zero, suc, _+_, _-_, _<_}
 use native.Mathlib.Nat.{le-of-suc-le-suc, not-suc-le-zero}
 use native.Mathlib.Numerals.{add-one}
 use lib.Dec.{eqb}
-use lib.ListN.{length, getD, take, drop, replicate, take-append-drop}
+use lib.ListN.{length, getD, take, drop, replicate, take-append-drop, length-drop, length-replicate}
 use lib.Seq.{take-suc}
 use borrow.Author.Tests.{eqb-true}
 use Rattle.octets.specs.Every.{every, allZero}
@@ -59,3 +59,10 @@ all-zeros [] h = refl
 all-zeros (x ∷ l) h =
     let p = and-parts (eqb x 0) (allZero l) h in
     cc (eqb-true x 0 (p .0), all-zeros l (p .1))
+
+-- zeros, but for the first k
+pub drop-zeros : (k n : ℕ) → drop k (replicate {A = ℕ} n 0) ≡ replicate (n - k) 0
+drop-zeros k n =
+    let zeros : List ℕ = replicate n 0 in
+    all-zeros (drop k zeros) (every-drop _ k zeros (zeros-all n))
+    ∙ ap (λ (i : ℕ). replicate i 0) (length-drop k zeros ∙ ap (λ (i : ℕ). i - k) (length-replicate n 0))

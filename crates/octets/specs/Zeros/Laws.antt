@@ -3,22 +3,17 @@ use mathlib.Core.Path.{_≡_, sym, ap, _∙_}
 use mathlib.Core.List.{List, _++_, append-assoc}
 use Prim.Native.Nat.{ℕ, _+_, _-_, _≤_}
 use native.Mathlib.Omega.{arith}
-use lib.ListN.{length, take, drop, replicate, length-append, length-drop, length-replicate, replicate-append-replicate}
+use lib.ListN.{length, take, replicate, length-append, length-replicate, replicate-append-replicate}
 use lib.Seq.{take-append-le, take-append-seam}
 use Rattle.octets.specs.Copy.{over}
 use Rattle.octets.specs.Copy.Laws.{over-short, over-long}
-use Rattle.octets.specs.Every.Laws.{every-drop, zeros-all, all-zeros}
+use Rattle.octets.specs.Every.Laws.{drop-zeros}
 use Rattle.octets.specs.Zeros.{zerosTo}
 
 -- bytes written over the beginning of zeros
 pub over-zeros : (n : ℕ) (l : List ℕ) → length l ≤ n → over l (replicate n 0) ≡ zerosTo n l
 over-zeros n l h =
-    let o : List ℕ = replicate n 0 in
-    let z : drop (length l) o ≡ replicate (n - length l) 0 =
-    all-zeros (drop (length l) o) (every-drop _ (length l) o (zeros-all n))
-    ∙ ap (λ (k : ℕ). replicate k 0) (length-drop (length l) o ∙ ap (λ (k : ℕ). k - length l) (length-replicate n 0))
-    in
-    over-short l o (omega (arith, length-replicate {A = ℕ} n 0)) ∙ ap (λ (r : List ℕ). l ++ r) z
+    over-short l (replicate n 0) (omega (arith, length-replicate {A = ℕ} n 0)) ∙ ap (λ (r : List ℕ). l ++ r) (drop-zeros (length l) n)
 
 pub zeros-length : (n : ℕ) (l : List ℕ) → length l ≤ n → length (zerosTo n l) ≡ n
 zeros-length n l h = omega (arith, length-append l (replicate (n - length l) 0), length-replicate {A = ℕ} (n - length l) 0)

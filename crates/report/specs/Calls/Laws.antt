@@ -20,19 +20,20 @@ use Rattle.algorithm.specs.declared.hashes.Named.the-variants.{Is, Unknown}
 use Rattle.algorithm.specs.Hashes.{names, hashOf, sizeOf, shortestOf}
 use Rattle.algorithm.specs.Hashes.Laws.{unknown, known}
 use Rattle.algorithm.specs.Refusals.{done, tagDiffers, unknownHash, keyTooLong, wrongSize, prkTooShort, noSuchSite, mostBytes}
-use Rattle.algorithm.specs.Checks.{Check, check, firstFailing, Pass, Fail, written, answered}
+use Rattle.algorithm.specs.Checks.{Check, check, firstFailing, Pass, Refusing, Fail, written, answered}
 use Rattle.algorithm.specs.Checks.Pass.{all, and}
 use Rattle.algorithm.specs.Checks.Refusing.{none, more}
-use Rattle.algorithm.specs.Checks.Laws.{exactly, done-passes, append-refuses, refused-given}
+use Rattle.algorithm.specs.Checks.Laws.{exactly, done-passes, append-refuses, append-passes, refusing-append, refused-given, done-work}
 use Rattle.hmac.specs.Hmac.{tagOf}
-use Rattle.report.specs.Reading.{namesHash, hashNamed, namedIn, hashIn, tagStart, beforeTag, readSites, sitesIn, readChecks, readOf}
-use Rattle.report.specs.Reading.Laws.{First, first, firstSite, Passed, passed, passes, passes-then}
+use Rattle.hmac.specs.Calls.Laws.{says-yes}
+use Rattle.report.specs.Reading.{namesHash, hashNamed, namedIn, hashIn, tagStart, beforeTag, firstSite, readSites, sitesIn, readChecks, fieldsOf, readOf}
+use Rattle.report.specs.Reading.Laws.{refuses, read-refusing, First, first, Passed, passed, passes, passes-then}
 use Rattle.report.specs.Fingerprint.{fingerprintOf}
 use Rattle.report.specs.Keys.{keysOf}
 use Rattle.report.specs.Layout.{Site, liveOf}
-use Rattle.report.specs.Inside.{siteHere, bodySites, refusedReading, headReading, refusedSite, foundSite}
+use Rattle.report.specs.Inside.{siteHere, bodySites, refusedReading, headReading}
 use Rattle.report.specs.declared.sites.SiteAt.{SiteAt}
-use Rattle.report.specs.Calls.{readingOf, siteOf, before, placeChecks, siteAnswer, labelAnswer, keyChecks, tagChecks, checkAnswer, fingerprintChecks, fingerprintAnswer, keysChecks, keysAnswer}
+use Rattle.report.specs.Calls.{readingOf, numbersOf, readIntoChecks, readIntoAnswer, siteNumbers, siteIntoChecks, siteIntoAnswer, siteOf, before, foundSite, refusedSite, Points, placeChecks, siteAnswer, labelAnswer, keyChecks, tagChecks, checkAnswer, fingerprintChecks, fingerprintAnswer, keysChecks, keysAnswer}
 
 -- what a report's number says: whether a report names a hash by it, and which
 module _ (n : ℕ) where
@@ -156,17 +157,13 @@ module _ (cs : List Check) (work given : List ℕ) where
   refused-answer n e z = λ i. (e i, refused-given cs work given (λ d. z (sym e ∙ d)) i)
 
   done-answer : firstFailing cs ≡ done → answered cs work given ≡ written done work
-  done-answer e = rw e
+  done-answer e = λ i. (e i, done-work cs work given e i)
 
 -- the sites of a report that passes are those of its body
 pub sites-body : (s : List ℕ) → Passed s → bodySites (beforeTag s) ≡ sitesIn s
 sites-body s p = ap (λ (n : ℕ). readSites n (drop 45 (beforeTag s))) (number-front (tagStart s) 43 2 s (omega (arith, p .tag-fits)))
 
--- what is answered for a place says where the label stands in the report
-pub record Points (s : List ℕ) (label : List ℕ) (r : SiteAt) : Type 0 where
-  pub room : r .start + r .length ≤ length s
-  pub is : take (r .length) (drop (r .start) s) ≡ label
-
+-- the numbers of a site that is found point to its label
 found-points : (s : List ℕ) (place : ℕ) → Passed s → place < length (sitesIn s .1)
     → Points s (siteOf (sitesIn s .1) place .label) (foundSite (sitesIn s .1) place)
 found-points s place p l =
@@ -206,6 +203,18 @@ module _ (s : List ℕ) (place : ℕ) where
   unfolding siteAnswer
   stopped-site n e z = rw (e, ne-eqb n done z)
 
+  pub site-number : siteAnswer s place .number ≡ firstFailing (placeChecks s place)
+  unfolding siteAnswer
+  site-number = elim (ℕ-discrete (firstFailing (placeChecks s place)) done) [
+    | yes e ↦ rw e
+    | no z ↦ rw (ne-eqb (firstFailing (placeChecks s place)) done z)
+  ]
+
+  -- the numbers of a site that is found
+  pub site-found : firstFailing (placeChecks s place) ≡ done → siteAnswer s place ≡ foundSite (sitesIn s .1) place
+  unfolding siteAnswer
+  site-found e = rw e
+
   pub site-refused : (firstFailing (readChecks s) ≡ done → ⊥) → siteAnswer s place ≡ refusedSite (firstFailing (readChecks s))
   site-refused z = stopped-site (firstFailing (readChecks s)) (append-refuses (readChecks s) (there ∷ []) z) z
 
@@ -217,13 +226,15 @@ module _ (s : List ℕ) (place : ℕ) where
     there-done l = passes-then s p (there ∷ []) ∙ rw (lt-ltb place (length (sitesIn s .1)) l)
 
     pub site-there : place < length (sitesIn s .1) → siteAnswer s place ≡ foundSite (sitesIn s .1) place
-    unfolding siteAnswer
-    site-there l = rw (there-done l)
+    site-there l = site-found (there-done l)
+
+  pub place-refusing : Refusing (placeChecks s place)
+  place-refusing = refusing-append (readChecks s) (there ∷ []) (read-refusing s) (refuses _ _ none)
 
   -- the label is the part of the report that `site` points to, and the number is that of `site`
   pub label-number : labelAnswer s place .0 ≡ siteAnswer s place .number
-  unfolding labelAnswer siteAnswer
-  label-number = refl
+  unfolding labelAnswer
+  label-number = sym site-number
 
   label-stops : (n : ℕ) → firstFailing (placeChecks s place) ≡ n → (n ≡ done → ⊥) → labelAnswer s place .1 ≡ []
   unfolding labelAnswer
@@ -249,6 +260,52 @@ module _ (s : List ℕ) (place : ℕ) where
     ]
   ]
 
+-- read_into
+module _ (s fields : List ℕ) where
+  abbrev eleven : Check
+  eleven = check (eqb (length fields) 11) wrongSize
+
+  pub read-into-refused : (firstFailing (readChecks s) ≡ done → ⊥) → readIntoAnswer s fields ≡ written (firstFailing (readChecks s)) fields
+  unfolding readIntoAnswer
+  read-into-refused z =
+      refused-answer (readIntoChecks s fields) (numbersOf (fieldsOf s)) fields (firstFailing (readChecks s)) (append-refuses (readChecks s) (eleven ∷ []) z) z
+
+  module _ (p : Passed s) where
+    pub read-into-wrong-size : (length fields ≡ 11 → ⊥) → readIntoAnswer s fields ≡ written wrongSize fields
+    unfolding readIntoAnswer
+    read-into-wrong-size n =
+        refused-answer (readIntoChecks s fields) (numbersOf (fieldsOf s)) fields wrongSize (passes-then s p (eleven ∷ []) ∙ rw (ne-eqb (length fields) 11 n)) (λ z. omega arith)
+
+    pub read-into-accepted : length fields ≡ 11 → readIntoAnswer s fields ≡ written done (numbersOf (fieldsOf s))
+    unfolding readIntoAnswer
+    read-into-accepted e =
+        done-answer (readIntoChecks s fields) (numbersOf (fieldsOf s)) fields (passes-then s p (eleven ∷ []) ∙ rw (eq-eqb (length fields) 11 e))
+
+-- site_into, by the number of `site`
+module _ (s : List ℕ) (place : ℕ) (numbers : List ℕ) where
+  abbrev four : Check
+  four = check (eqb (length numbers) 4) wrongSize
+
+  pub site-into-refused : (firstFailing (placeChecks s place) ≡ done → ⊥) → siteIntoAnswer s place numbers ≡ written (firstFailing (placeChecks s place)) numbers
+  unfolding siteIntoAnswer
+  site-into-refused z =
+      refused-answer (siteIntoChecks s place numbers) (siteNumbers (sitesIn s .1) place) numbers (firstFailing (placeChecks s place))
+      (append-refuses (placeChecks s place) (four ∷ []) z) z
+
+  module _ (d : firstFailing (placeChecks s place) ≡ done) where
+    then : firstFailing (siteIntoChecks s place numbers) ≡ firstFailing (four ∷ [])
+    then = append-passes (placeChecks s place) (four ∷ []) d (place-refusing s place)
+
+    pub site-into-wrong-size : (length numbers ≡ 4 → ⊥) → siteIntoAnswer s place numbers ≡ written wrongSize numbers
+    unfolding siteIntoAnswer
+    site-into-wrong-size n =
+        refused-answer (siteIntoChecks s place numbers) (siteNumbers (sitesIn s .1) place) numbers wrongSize (then ∙ rw (ne-eqb (length numbers) 4 n)) (λ z. omega arith)
+
+    pub site-into-accepted : length numbers ≡ 4 → siteIntoAnswer s place numbers ≡ written done (siteNumbers (sitesIn s .1) place)
+    unfolding siteIntoAnswer
+    site-into-accepted e =
+        done-answer (siteIntoChecks s place numbers) (siteNumbers (sitesIn s .1) place) numbers (then ∙ rw (eq-eqb (length numbers) 4 e))
+
 -- check
 module _ (s key : List ℕ) where
   abbrev compares : Check
@@ -268,6 +325,13 @@ module _ (s key : List ℕ) where
         ≡ cond (equal (drop (tagStart s) s) (tagOf (hashIn s) key (shortestOf (hashIn s)) (beforeTag s))) done tagDiffers
     unfolding checkAnswer
     check-compared l = passes-then s p (keyChecks key ++ (compares ∷ [])) ∙ rw (le-leb (length key) mostBytes l)
+
+    -- so it says yes exactly to the tag of all bytes before it
+    pub check-tag : length key ≤ mostBytes
+        → checkAnswer s key ≡ done ↔ (drop (tagStart s) s ≡ tagOf (hashIn s) key (shortestOf (hashIn s)) (beforeTag s))
+    check-tag l =
+        let tag : List ℕ = tagOf (hashIn s) key (shortestOf (hashIn s)) (beforeTag s) in
+        subst (λ (n : ℕ). n ≡ done ↔ (drop (tagStart s) s ≡ tag)) (sym (check-compared l)) (says-yes (drop (tagStart s) s) tag)
 
 -- fingerprint
 module _ (s key out : List ℕ) where
@@ -338,8 +402,16 @@ module _ (r : ℕ) (refusal : r ≡ done → ⊥) where
   read-exactly s = exactly (readChecks s) r refusal
 
   pub site-exactly : (s : List ℕ) (place : ℕ) → siteAnswer s place .number ≡ r ↔ Fail (placeChecks s place) r
-  unfolding siteAnswer
-  site-exactly s place = exactly (placeChecks s place) r refusal
+  site-exactly s place =
+      subst (λ (n : ℕ). n ≡ r ↔ Fail (placeChecks s place) r) (sym (site-number s place)) (exactly (placeChecks s place) r refusal)
+
+  pub read-into-exactly : (s fields : List ℕ) → readIntoAnswer s fields .0 ≡ r ↔ Fail (readIntoChecks s fields) r
+  unfolding readIntoAnswer
+  read-into-exactly s fields = exactly (readIntoChecks s fields) r refusal
+
+  pub site-into-exactly : (s : List ℕ) (place : ℕ) (numbers : List ℕ) → siteIntoAnswer s place numbers .0 ≡ r ↔ Fail (siteIntoChecks s place numbers) r
+  unfolding siteIntoAnswer
+  site-into-exactly s place numbers = exactly (siteIntoChecks s place numbers) r refusal
 
   pub label-exactly : (s : List ℕ) (place : ℕ) → labelAnswer s place .0 ≡ r ↔ Fail (placeChecks s place) r
   unfolding labelAnswer

@@ -3,12 +3,20 @@ use mathlib.Core.Path.{_≡_}
 use mathlib.Core.List.{List}
 use Prim.Native.Nat.{ℕ}
 use Rattle.algorithm.specs.Checks.Laws.{one-outcome}
-use Rattle.report.specs.Calls.{ReadOutcome, SiteOutcome, LabelOutcome, CheckOutcome, FingerprintOutcome, KeysOutcome}
+use Rattle.report.specs.Calls.{ReadOutcome, ReadIntoOutcome, SiteOutcome, SiteIntoOutcome, LabelOutcome, CheckOutcome, FingerprintOutcome, KeysOutcome}
 use Rattle.report.specs.declared.reading.Reading.{Reading}
 use Rattle.report.specs.declared.sites.SiteAt.{SiteAt}
 
 pub read-unique : (s : List ℕ) (r r′ : Reading) → ReadOutcome s r → ReadOutcome s r′ → r ≡ r′
 read-unique s r r′ = one-outcome
+
+pub read-into-unique : (s fields : List ℕ) (r r′ : ℕ) (o o′ : List ℕ)
+    → ReadIntoOutcome s fields r o → ReadIntoOutcome s fields r′ o′ → _≡_ {A = ℕ × List ℕ} (r, o) (r′, o′)
+read-into-unique s fields r r′ o o′ = one-outcome
+
+pub site-into-unique : (s : List ℕ) (place : ℕ) (numbers : List ℕ) (r r′ : ℕ) (o o′ : List ℕ)
+    → SiteIntoOutcome s place numbers r o → SiteIntoOutcome s place numbers r′ o′ → _≡_ {A = ℕ × List ℕ} (r, o) (r′, o′)
+site-into-unique s place numbers r r′ o o′ = one-outcome
 
 pub site-unique : (s : List ℕ) (place : ℕ) (r r′ : SiteAt) → SiteOutcome s place r → SiteOutcome s place r′ → r ≡ r′
 site-unique s place r r′ = one-outcome

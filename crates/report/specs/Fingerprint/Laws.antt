@@ -14,7 +14,7 @@ use Rattle.algorithm.specs.Hashes.{shortestOf}
 use Rattle.report.specs.Layout.{Fields, sitesBytes, AgreeButSendTime}
 use Rattle.report.specs.Reading.{hashNamed, hashIn, tagStart, beforeTag, readSites, fieldsOf, readOf, WellFormed}
 use Rattle.report.specs.Reading.Laws.{behindSent, read-fields, well-formed-passed, tag-low, tag-high, behind-sent}
-use Rattle.report.specs.Fingerprint.{messageOf}
+use Rattle.report.specs.Fingerprint.{gapStart, gapEnd, messageOf}
 
 -- what the fields between the count and the send time spell
 beforeSent : Fields → List ℕ
@@ -22,21 +22,21 @@ beforeSent f = bytes 1 (f .version) ++ (bytes 1 (f .hash) ++ (bytes 4 (f .tenant
 
 module _ (s : List ℕ) (w : WellFormed s) where
   -- the first part of the message has 22 bytes
-  first-length : length (slice 4 26 s) ≡ 22
-  first-length = length-slice 4 26 s (omega (arith, well-formed-passed s w .long))
+  first-length : length (slice 4 gapStart s) ≡ 22
+  first-length = length-slice 4 gapStart s (omega (arith, well-formed-passed s w .long))
 
   -- a number of the first part, spelled before what follows it there
-  spelled : (at n end : ℕ) → at + n ≡ end → end ≤ 26 → bytes n (numberAt s at n) ++ slice end 26 s ≡ slice at 26 s
-  spelled at n end e h = number-between s 26 at n end (w .bytes) e h (omega (arith, well-formed-passed s w .long))
+  spelled : (at n end : ℕ) → at + n ≡ end → end ≤ gapStart → bytes n (numberAt s at n) ++ slice end gapStart s ≡ slice at gapStart s
+  spelled at n end e h = number-between s gapStart at n end (w .bytes) e h (omega (arith, well-formed-passed s w .long))
 
   -- the fields between the count and the send time spell the first part
-  before-sent : beforeSent (fieldsOf s) ≡ slice 4 26 s
+  before-sent : beforeSent (fieldsOf s) ≡ slice 4 gapStart s
   unfolding beforeSent
   before-sent =
-      let last : bytes 8 (numberAt s 18 8) ≡ slice 18 26 s =
+      let last : bytes 8 (numberAt s 18 8) ≡ slice 18 gapStart s =
       sym (append-nil (bytes 8 (numberAt s 18 8)))
-      ∙ ap (λ (r : List ℕ). bytes 8 (numberAt s 18 8) ++ r) (sym (slice-empty 26 s))
-      ∙ spelled 18 8 26 refl (lit≤ tt)
+      ∙ ap (λ (r : List ℕ). bytes 8 (numberAt s 18 8) ++ r) (sym (slice-empty gapStart s))
+      ∙ spelled 18 8 gapStart refl (lit≤ tt)
       in
       rw (last, spelled 10 8 18 refl (lit≤ tt), spelled 6 4 10 refl (lit≤ tt), spelled 5 1 6 refl (lit≤ tt), spelled 4 1 5 refl (lit≤ tt))
 
@@ -61,37 +61,37 @@ module _ (s t : List ℕ) (v : WellFormed s) (w : WellFormed t) where
       sym (number-slice from top i n s h) ∙ ap (λ (r : List ℕ). numberAt r i n) e ∙ number-slice from top′ i n t h′
 
   -- reports that share both parts agree: each field but the count is read from a part
-  agree : slice 4 26 s ≡ slice 4 26 t → slice 34 (tagStart s) s ≡ slice 34 (tagStart t) t → AgreeButSendTime (fieldsOf s) (fieldsOf t)
+  agree : slice 4 gapStart s ≡ slice 4 gapStart t → slice gapEnd (tagStart s) s ≡ slice gapEnd (tagStart t) t → AgreeButSendTime (fieldsOf s) (fieldsOf t)
   agree p q =
       let k : 45 ≤ tagStart s = tag-low s v in
       let k′ : 45 ≤ tagStart t = tag-low t w in
-      let hash : numberAt s 5 1 ≡ numberAt t 5 1 = shared 4 26 26 1 1 (lit≤ tt) (lit≤ tt) p in
-      let sites : numberAt s 43 2 ≡ numberAt t 43 2 = shared 34 (tagStart s) (tagStart t) 9 2 k k′ q in
+      let hash : numberAt s 5 1 ≡ numberAt t 5 1 = shared 4 gapStart gapStart 1 1 (lit≤ tt) (lit≤ tt) p in
+      let sites : numberAt s 43 2 ≡ numberAt t 43 2 = shared gapEnd (tagStart s) (tagStart t) 9 2 k k′ q in
       let rest : drop 45 (beforeTag s) ≡ drop 45 (beforeTag t) =
-      sym (drop-drop 11 34 (beforeTag s)) ∙ ap (drop 11) q ∙ drop-drop 11 34 (beforeTag t)
+      sym (drop-drop 11 gapEnd (beforeTag s)) ∙ ap (drop 11) q ∙ drop-drop 11 gapEnd (beforeTag t)
       in
       record {
         count = counts hash q;
-        version = shared 4 26 26 0 1 (lit≤ tt) (lit≤ tt) p;
+        version = shared 4 gapStart gapStart 0 1 (lit≤ tt) (lit≤ tt) p;
         hash = hash;
-        tenant = shared 4 26 26 2 4 (lit≤ tt) (lit≤ tt) p;
-        machine = shared 4 26 26 6 8 (lit≤ tt) (lit≤ tt) p;
-        report = shared 4 26 26 14 8 (lit≤ tt) (lit≤ tt) p;
-        attempt = shared 34 (tagStart s) (tagStart t) 0 1 (omega arith) (omega arith) q;
-        memory = shared 34 (tagStart s) (tagStart t) 1 8 (omega arith) (omega arith) q;
+        tenant = shared 4 gapStart gapStart 2 4 (lit≤ tt) (lit≤ tt) p;
+        machine = shared 4 gapStart gapStart 6 8 (lit≤ tt) (lit≤ tt) p;
+        report = shared 4 gapStart gapStart 14 8 (lit≤ tt) (lit≤ tt) p;
+        attempt = shared gapEnd (tagStart s) (tagStart t) 0 1 (omega arith) (omega arith) q;
+        memory = shared gapEnd (tagStart s) (tagStart t) 1 8 (omega arith) (omega arith) q;
         sites = ap₂ (λ (n : ℕ) (l : List ℕ). readSites n l .1) sites rest;
       }
     where
       -- the count is the length less four, and the length that of the second part, of what stands before it and of the tag
-      counts : numberAt s 5 1 ≡ numberAt t 5 1 → slice 34 (tagStart s) s ≡ slice 34 (tagStart t) t → numberAt s 0 4 ≡ numberAt t 0 4
+      counts : numberAt s 5 1 ≡ numberAt t 5 1 → slice gapEnd (tagStart s) s ≡ slice gapEnd (tagStart t) t → numberAt s 0 4 ≡ numberAt t 0 4
       counts h q =
           let tags : shortestOf (hashIn s) ≡ shortestOf (hashIn t) = ap (λ (n : ℕ). shortestOf (hashNamed n)) h in
           omega (
             arith,
             tags,
             ap length q,
-            length-slice 34 (tagStart s) s (tag-high s v),
-            length-slice 34 (tagStart t) t (tag-high t w),
+            length-slice gapEnd (tagStart s) s (tag-high s v),
+            length-slice gapEnd (tagStart t) t (tag-high t w),
             well-formed-passed s v .count,
             well-formed-passed t w .count,
             well-formed-passed s v .tag-fits,
@@ -109,8 +109,8 @@ module _ (s t : List ℕ) (v : WellFormed s) (w : WellFormed t) where
           let f = first-length s v in
           let g = first-length t w in
           agree
-          (sym (take-at (slice 4 26 s) (slice 34 (tagStart s) s) 22 f) ∙ ap (take 22) e ∙ take-at (slice 4 26 t) (slice 34 (tagStart t) t) 22 g)
-          (sym (drop-at (slice 4 26 s) (slice 34 (tagStart s) s) 22 f) ∙ ap (drop 22) e ∙ drop-at (slice 4 26 t) (slice 34 (tagStart t) t) 22 g)
+          (sym (take-at (slice 4 gapStart s) (slice gapEnd (tagStart s) s) 22 f) ∙ ap (take 22) e ∙ take-at (slice 4 gapStart t) (slice gapEnd (tagStart t) t) 22 g)
+          (sym (drop-at (slice 4 gapStart s) (slice gapEnd (tagStart s) s) 22 f) ∙ ap (drop 22) e ∙ drop-at (slice 4 gapStart t) (slice gapEnd (tagStart t) t) 22 g)
 
       back : AgreeButSendTime (fieldsOf s) (fieldsOf t) → messageOf s ≡ messageOf t
       back a = message-spelled s v ∙ spelled-same (fieldsOf s) (fieldsOf t) a ∙ sym (message-spelled t w)

@@ -7,7 +7,7 @@ use Prim.Native.Nat.{ℕ, zero, suc, _+_, _-_, _*_, _≤_}
 use native.Mathlib.Nat.{zero-add}
 use native.Mathlib.Omega.{arith}
 use lib.Dec.{leb, ltb, lit≤}
-use lib.ListN.{length, take, drop, take-append-drop, length-drop}
+use lib.ListN.{length, drop, take-append-drop, length-drop}
 use lib.Seq.{length-take-le, slice}
 use borrow.Author.Tests.{leb-true, le-leb, eqb-true, eqb-false, eq-eqb}
 use Rattle.octets.specs.Number.{number, onto, numberAt, bytes}
@@ -21,16 +21,12 @@ use Rattle.algorithm.specs.Checks.Pass.{all, and}
 use Rattle.algorithm.specs.Checks.Refusing.{none, more}
 use Rattle.algorithm.specs.Checks.Laws.{done-passes}
 use Rattle.report.specs.Layout.{Site, Fields, siteBytes, sitesBytes, bytesOf, liveOf}
-use Rattle.report.specs.Reading.{namesHash, hashIn, tagStart, beforeTag, withSite, readSites, sitesIn, mostLive, sitesChecks, readChecks, fieldsOf, readOf, WellFormed}
+use Rattle.report.specs.Reading.{namesHash, hashIn, tagStart, beforeTag, firstSite, withSite, readSites, sitesIn, mostLive, sitesChecks, readChecks, fieldsOf, readOf, WellFormed}
 
 -- the byte of a number that is one
 byte-is : (n : ℕ) → ltb n 256 ≡ true → bytes 1 n ≡ n ∷ []
 unfolding number onto every
 byte-is n h = ap (bytes 1) (sym (zero-add n)) ∙ bytes-number 1 (n ∷ []) refl (ap (λ (b : Bool). b && true) h)
-
--- the site whose label's length stands before some bytes
-abbrev pub firstSite : ℕ → List ℕ → Site
-firstSite size l = record { label = take size l; live = numberAt l size 8; blocks = numberAt l (size + 8) 4 }
 
 -- sites that are not refused, of which one is the first
 pub record First (n size : ℕ) (l : List ℕ) : Type 0 where
@@ -111,13 +107,6 @@ sites-refusing w = more (eqb-false (w .0) done) (refuses _ _ none)
 
 pub read-refusing : (s : List ℕ) → Refusing (readChecks s)
 read-refusing s = refuses _ _ (refuses _ _ (refuses _ _ (refuses _ _ (refuses _ _ (refuses _ _ (sites-refusing (sitesIn s)))))))
-
--- sites that are not refused are well placed, and their live bytes are not too many
-pub sites-pass : (w : ℕ × List Site) → firstFailing (sitesChecks w) ≡ done → (w .0 ≡ done) × (liveOf (w .1) ≤ mostLive)
-sites-pass w e = both (done-passes (sitesChecks w) (sites-refusing w) e)
-  where
-    both : Pass (sitesChecks w) → (w .0 ≡ done) × (liveOf (w .1) ≤ mostLive)
-    both (and placed (and live all)) = (eqb-true (w .0) done placed, leb-true (liveOf (w .1)) mostLive live)
 
 -- what the fields behind the send time spell
 abbrev pub behindSent : Fields → List ℕ

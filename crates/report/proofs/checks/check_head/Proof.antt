@@ -10,8 +10,7 @@ use Rattle.algorithm.specs.Checks.{firstFailing}
 use Rattle.algorithm.specs.Hashes.{shortestOf}
 use Rattle.algorithm.specs.Hashes.Laws.{half-digest, digest-most}
 use Rattle.octets.specs.Number.{numberAt}
-use Rattle.report.specs.Reading.{hashIn}
-use Rattle.report.specs.Inside.{startChecks}
+use Rattle.report.specs.Reading.{hashIn, startChecks}
 use Rattle.report.proofs.Heads.{hash-unknown, hash-known, start-refuses, start-long, head-unknown, head-short, head-sites, head-passes}
 use Rattle.report.proofs.checks.check_head.Statement.{statement}
 use Rattle.report.proofs.checks.check_head.Tie as tie

@@ -6,8 +6,8 @@ use native.Mathlib.Omega.{arith}
 use lib.ListN.{take, drop}
 use borrow.Author.Needs.{needs}
 use denote.Ref.{now}
-use Rattle.report.specs.Calls.{labelAnswer, siteAnswer}
-use Rattle.report.specs.Calls.Laws.{Points, label-number, label-points}
+use Rattle.report.specs.Calls.{labelAnswer, siteAnswer, Points}
+use Rattle.report.specs.Calls.Laws.{label-number, label-points}
 use Rattle.report.specs.declared.sites.SiteAt.{SiteAt}
 use Rattle.report.proofs.sites.label.Statement.{statement}
 use Rattle.report.proofs.sites.label.Tie as tie

@@ -12,7 +12,8 @@ use Rattle.octets.specs.Number.Laws.{number-front}
 use Rattle.report.specs.Layout.{Site}
 use Rattle.report.specs.Reading.{sitesIn}
 use Rattle.report.specs.Calls.Laws.{site-refused, site-none, site-there, sites-body}
-use Rattle.report.specs.Inside.{refusedSite, foundSite, bodySites, Standing}
+use Rattle.report.specs.Calls.{refusedSite, foundSite}
+use Rattle.report.specs.Inside.{bodySites, Standing}
 use Rattle.report.specs.declared.checks.Checked.{Checked}
 use Rattle.report.proofs.Checked.{Read, number, refuses, read, end-low, end-high}
 use Rattle.report.proofs.sites.site.Statement.{statement}
