@@ -1,0 +1,135 @@
+/* Tirmuzzle for C99 and C++: hashes, tags and derived keys of a leak-report aggregator. docs/PROTOCOL.md has the rules.
+ *
+ * Every call answers one of the numbers below, the first check of its list that fails, or TIRMUZZLE_DONE. A refused call writes to no
+ * buffer. A buffer is a pointer and how many elements it holds; NULL with 0 is an empty one. The buffers of one call must not overlap:
+ * an output that shares bytes with an input is not noticed and gives wrong bytes. No call keeps a pointer, takes memory or has state,
+ * so calls may run at the same time.
+ */
+#ifndef TIRMUZZLE_H
+#define TIRMUZZLE_H
+
+#include <stddef.h>
+#include <stdint.h>
+
+#ifdef __cplusplus
+extern "C" {
+#endif
+
+/* The numbers that come back. */
+enum {
+    TIRMUZZLE_DONE = 0,                       /* done, or the tag matches */
+    TIRMUZZLE_TAG_DIFFERS = 1,                /* the tag differs */
+    TIRMUZZLE_UNKNOWN_HASH = 2,               /* the number names no hash */
+    TIRMUZZLE_KEY_TOO_LONG = 3,               /* key, salt or PRK over 4,294,967,295 bytes */
+    TIRMUZZLE_MESSAGE_TOO_LONG = 4,           /* more than 4,294,967,295 bytes to hash; for a tag the key's block counts */
+    TIRMUZZLE_TAG_LENGTH_OUT_OF_RANGE = 5,    /* a tag has 16 to 32 bytes under hash 1, 32 to 64 under hash 2 */
+    TIRMUZZLE_WRONG_SIZE = 6,                 /* a presented tag, or an output of a fixed size, of another size */
+    TIRMUZZLE_PRK_TOO_SHORT = 7,              /* PRK shorter than a digest */
+    TIRMUZZLE_INFO_TOO_LONG = 8,              /* info over 1,024 bytes */
+    TIRMUZZLE_OUTPUT_TOO_LONG = 9,            /* output over 255 digests */
+    TIRMUZZLE_STATE_NOT_SOUND = 10,           /* of work in pieces, which has no call here */
+    TIRMUZZLE_WRONG_REPORT_LENGTH = 11,       /* report too short, or its count is not its length less four */
+    TIRMUZZLE_UNKNOWN_VERSION = 12,           /* the report's version is not 1 */
+    TIRMUZZLE_TOO_MANY_SITES = 13,            /* more than 64 sites */
+    TIRMUZZLE_LABEL_LENGTH_OUT_OF_RANGE = 14, /* a label of 0 or more than 48 bytes */
+    TIRMUZZLE_SITES_MISPLACED = 15,           /* a site reaches into the tag, or bytes stand between the last site and the tag */
+    TIRMUZZLE_SUM_TOO_LARGE = 16,             /* live bytes of more than 2^64 - 1 in all */
+    TIRMUZZLE_NO_SUCH_SITE = 17               /* no site at that place */
+};
+
+/* The hashes, and the bytes of their digests. */
+enum {
+    TIRMUZZLE_SHA256 = 1,
+    TIRMUZZLE_SHA512 = 2,
+    TIRMUZZLE_SHA256_DIGEST = 32,
+    TIRMUZZLE_SHA512_DIGEST = 64
+};
+
+/* Sizes of reports and of what is made from them. */
+enum {
+    TIRMUZZLE_SMALLEST_REPORT = 61,
+    TIRMUZZLE_LARGEST_REPORT = 3981,
+    TIRMUZZLE_SHA256_REPORT_TAG = 16,
+    TIRMUZZLE_SHA512_REPORT_TAG = 32,
+    TIRMUZZLE_FINGERPRINT = 32
+};
+
+/* The places of what tirmuzzle_report_read writes, and how many there are. */
+enum {
+    TIRMUZZLE_FIELD_COUNT = 0,
+    TIRMUZZLE_FIELD_VERSION = 1,
+    TIRMUZZLE_FIELD_HASH = 2,
+    TIRMUZZLE_FIELD_TENANT = 3,
+    TIRMUZZLE_FIELD_MACHINE = 4,
+    TIRMUZZLE_FIELD_REPORT_NUMBER = 5,
+    TIRMUZZLE_FIELD_SEND_TIME = 6,
+    TIRMUZZLE_FIELD_ATTEMPT = 7,
+    TIRMUZZLE_FIELD_MEMORY = 8,
+    TIRMUZZLE_FIELD_SITES = 9,
+    TIRMUZZLE_FIELD_LIVE_BYTES = 10,
+    TIRMUZZLE_FIELDS = 11
+};
+
+/* The places of what tirmuzzle_report_site writes, and how many there are. */
+enum {
+    TIRMUZZLE_SITE_LABEL_START = 0,
+    TIRMUZZLE_SITE_LABEL_LENGTH = 1,
+    TIRMUZZLE_SITE_LIVE_BYTES = 2,
+    TIRMUZZLE_SITE_LIVE_BLOCKS = 3,
+    TIRMUZZLE_SITE_NUMBERS = 4
+};
+
+/* ---- For agents ---- */
+
+/* The first tag_length bytes of the HMAC of a message. out has exactly tag_length bytes.
+ * Refuses with 2, 3, 4, 5, 6, in this order. */
+uint32_t tirmuzzle_tag(uint32_t hash, const uint8_t *key, size_t key_length, const uint8_t *message, size_t message_length,
+                       size_t tag_length, uint8_t *out, size_t out_length);
+
+/* Whether a presented tag is the message's, of exactly tag_length bytes: 0 where it is, 1 where it is not.
+ * Refuses with 2, 3, 4, 5, 6, in this order; 1 is the last check of all. */
+uint32_t tirmuzzle_verify(uint32_t hash, const uint8_t *key, size_t key_length, const uint8_t *message, size_t message_length,
+                          size_t tag_length, const uint8_t *tag, size_t presented_length);
+
+/* HKDF's extract: a PRK of a digest's bytes from a salt, which may be empty, and input key material. out has a digest's bytes.
+ * Refuses with 2, 3, 4, 6, in this order. */
+uint32_t tirmuzzle_extract(uint32_t hash, const uint8_t *salt, size_t salt_length, const uint8_t *ikm, size_t ikm_length,
+                           uint8_t *out, size_t out_length);
+
+/* HKDF's expand: as many bytes as out has, which may be none. Refuses with 2, 3, 7, 8, 9, in this order. */
+uint32_t tirmuzzle_expand(uint32_t hash, const uint8_t *prk, size_t prk_length, const uint8_t *info, size_t info_length,
+                          uint8_t *out, size_t out_length);
+
+/* The fingerprint of a report, which its send time and its tag do not change, under the fingerprint key as it is lent.
+ * out has TIRMUZZLE_FINGERPRINT bytes. Refuses with 11, 12, 2, 11, 13, 15, 14, 15, 16 as docs/PROTOCOL.md orders them for reading a
+ * report, then 3, 6. */
+uint32_t tirmuzzle_report_fingerprint(const uint8_t *report, size_t report_length, const uint8_t *fingerprint_key,
+                                      size_t fingerprint_key_length, uint8_t *out, size_t out_length);
+
+/* ---- For the collector ---- */
+
+/* The digest of a message. out has a digest's bytes. Refuses with 2, 4, 6, in this order. */
+uint32_t tirmuzzle_digest(uint32_t hash, const uint8_t *message, size_t message_length, uint8_t *out, size_t out_length);
+
+/* The tag key of a machine, then its fingerprint key, each of a digest's bytes, from a PRK. out has the bytes of two digests.
+ * Refuses with 2, 3, 6, 7, in this order. */
+uint32_t tirmuzzle_report_keys(uint32_t hash, const uint8_t *prk, size_t prk_length, uint32_t tenant, uint64_t machine, uint8_t *out,
+                               size_t out_length);
+
+/* Whether the tag at the end of a report is that of all bytes before it, under the tag key as it is lent: 0 where it is, 1 where it is
+ * not. Refuses as reading a report does, then with 3; 1 is the last check of all. */
+uint32_t tirmuzzle_report_check(const uint8_t *report, size_t report_length, const uint8_t *tag_key, size_t tag_key_length);
+
+/* Every field of a report and the sum of its live bytes; fields has TIRMUZZLE_FIELDS places. The tag plays no part.
+ * Refuses as reading a report does, then with 6. */
+uint32_t tirmuzzle_report_read(const uint8_t *report, size_t report_length, uint64_t *fields, size_t fields_count);
+
+/* The site at a place, counted from 0: where its label starts in the report, the label's length, live bytes, live blocks; site has
+ * TIRMUZZLE_SITE_NUMBERS places. Refuses as reading a report does, then with 17, 6. */
+uint32_t tirmuzzle_report_site(const uint8_t *report, size_t report_length, uint64_t place, uint64_t *site, size_t site_count);
+
+#ifdef __cplusplus
+}
+#endif
+
+#endif
