@@ -1,9 +1,9 @@
 /* Tirmuzzle for C99 and C++: hashes, tags and derived keys of a leak-report aggregator. docs/PROTOCOL.md has the rules.
  *
  * Every call answers one of the numbers below, the first check of its list that fails, or TIRMUZZLE_DONE. A refused call writes to no
- * buffer. A buffer is a pointer and how many elements it holds; NULL with 0 is an empty one. The buffers of one call must not overlap:
- * an output that shares bytes with an input is not noticed and gives wrong bytes. No call keeps a pointer, takes memory or has state,
- * so calls may run at the same time.
+ * buffer. A buffer is a pointer and how many elements it holds; NULL with 0 is an empty one. An output must not overlap another buffer
+ * of its call: it is not noticed and gives wrong bytes. Inputs may share bytes. No call keeps a pointer, takes memory or has state, so
+ * calls may run at the same time.
  */
 #ifndef TIRMUZZLE_H
 #define TIRMUZZLE_H
@@ -47,8 +47,8 @@ enum {
 
 /* Sizes of reports and of what is made from them. */
 enum {
-    TIRMUZZLE_SMALLEST_REPORT = 61,
-    TIRMUZZLE_LARGEST_REPORT = 3981,
+    TIRMUZZLE_SMALLEST_REPORT = 61,  /* under SHA-256; under SHA-512 it has 77 bytes */
+    TIRMUZZLE_LARGEST_REPORT = 3981, /* under SHA-512; under SHA-256 it has 3,965 bytes */
     TIRMUZZLE_SHA256_REPORT_TAG = 16,
     TIRMUZZLE_SHA512_REPORT_TAG = 32,
     TIRMUZZLE_FINGERPRINT = 32

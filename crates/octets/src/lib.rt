@@ -1,4 +1,4 @@
-// Bytes: copying, comparing, the test for zeros, and numbers as bytes. Every function is total.
+// Bytes: copying, comparing, the test for zeros; and numbers: their bytes, and copying them. Every function is total.
 mod compare;
 mod copy;
 mod numbers;

@@ -40,20 +40,23 @@ abbrev pub ReadOutcome : List ℕ → Reading → Type 0
 ReadOutcome s r = r ≡ readingOf (readOf s)
 
 -- read_into(report, fields): the same numbers in a list
-abbrev pub numbersOf : Fields → List ℕ
-numbersOf f =
-    f .count
-    ∷ f .version
-    ∷ f .hash
-    ∷ f .tenant
-    ∷ f .machine
-    ∷ f .report
-    ∷ f .sent
-    ∷ f .attempt
-    ∷ f .memory
-    ∷ length (f .sites)
-    ∷ liveOf (f .sites)
+abbrev pub listOf : Reading → List ℕ
+listOf r =
+    r .count
+    ∷ r .version
+    ∷ r .hash
+    ∷ r .tenant
+    ∷ r .machine
+    ∷ r .report
+    ∷ r .sent
+    ∷ r .attempt
+    ∷ r .memory
+    ∷ r .sites
+    ∷ r .live
     ∷ []
+
+abbrev pub numbersOf : Fields → List ℕ
+numbersOf f = listOf (readingOf (done, f))
 
 abbrev pub readIntoChecks : List ℕ → List ℕ → List Check
 readIntoChecks s fields = readChecks s ++ (check (eqb (length fields) 11) wrongSize ∷ [])
@@ -99,8 +102,11 @@ abbrev pub SiteOutcome : List ℕ → ℕ → SiteAt → Type 0
 SiteOutcome s place r = r ≡ siteAnswer s place
 
 -- site_into(report, place, numbers): the same numbers in a list
+abbrev pub siteList : SiteAt → List ℕ
+siteList r = r .start ∷ r .length ∷ r .live ∷ r .blocks ∷ []
+
 abbrev pub siteNumbers : List Site → ℕ → List ℕ
-siteNumbers xs place = (46 + before xs place) ∷ length (siteOf xs place .label) ∷ siteOf xs place .live ∷ siteOf xs place .blocks ∷ []
+siteNumbers xs place = siteList (foundSite xs place)
 
 abbrev pub siteIntoChecks : List ℕ → ℕ → List ℕ → List Check
 siteIntoChecks s place numbers = placeChecks s place ++ (check (eqb (length numbers) 4) wrongSize ∷ [])

@@ -109,22 +109,6 @@ headReading s live = record {
   live = live;
 }
 
--- the numbers of a reading in a list
-abbrev pub listOf : Reading → List ℕ
-listOf r =
-    r .count
-    ∷ r .version
-    ∷ r .hash
-    ∷ r .tenant
-    ∷ r .machine
-    ∷ r .report
-    ∷ r .sent
-    ∷ r .attempt
-    ∷ r .memory
-    ∷ r .sites
-    ∷ r .live
-    ∷ []
-
 -- the sites of a report's body
 abbrev pub bodySites : List ℕ → ℕ × List Site
 bodySites body = readSites (numberAt body 43 2) (drop 45 body)

@@ -1,7 +1,6 @@
 // The answers of `read` and `site` as lists of numbers, for callers that take no struct.
 ghost use mathlib.Core.Path.{_≡_};
-ghost use Rattle.report.specs.Calls.{ReadIntoOutcome, SiteIntoOutcome};
-ghost use Rattle.report.specs.Inside.{listOf};
+ghost use Rattle.report.specs.Calls.{ReadIntoOutcome, SiteIntoOutcome, listOf};
 use crate::reading::Reading;
 use crate::reading::read;
 use crate::sites::site;
@@ -12,7 +11,7 @@ const FIELDS: usize = 11;
 const SITE: usize = 4;
 
 // The fields of a reading, one behind the other.
-fn listed(found: Reading) -> [u64; 11]
+fn listed(found: Reading) -> [u64; FIELDS]
     ensures { λ r. ⌜ r ≡ listOf found ⌝ }
 {
     [

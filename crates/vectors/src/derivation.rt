@@ -6,8 +6,8 @@ pub(crate) fn run() {
     cases::published();
     cases::lengths(1, 31, 32, 33, 8160, 8161);
     cases::lengths(2, 63, 64, 65, 16320, 16321);
-    cases::limits(1, 32);
-    cases::limits(2, 64);
-    cases::limits(0, 32);
-    cases::limits(3, 64);
+    cases::limits(1, 31, 32, 33);
+    cases::limits(2, 63, 64, 65);
+    cases::limits(0, 31, 32, 33);
+    cases::limits(3, 63, 64, 65);
 }

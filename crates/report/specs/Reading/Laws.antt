@@ -15,6 +15,7 @@ use Rattle.octets.specs.Number.Laws.{bytes-number, number-back, number-between}
 use Rattle.octets.specs.Every.{every, allBytes}
 use Rattle.octets.specs.Every.Laws.{and-parts, every-take, every-drop}
 use Rattle.algorithm.specs.Hashes.{shortestOf}
+use Rattle.algorithm.specs.Hashes.Laws.{half-digest, digest-most}
 use Rattle.algorithm.specs.Refusals.{done, labelLengthOutOfRange, sitesMisplaced}
 use Rattle.algorithm.specs.Checks.{Check, check, firstFailing, Pass, Refusing}
 use Rattle.algorithm.specs.Checks.Pass.{all, and}
@@ -159,9 +160,14 @@ module _ (s : List ℕ) where
   pub passes : Passed s → firstFailing (readChecks s) ≡ done
   passes p = passes-then p []
 
-  -- few bytes stand before its tag
+  -- the most bytes before a tag, and the smallest and the largest report
   pub short : Passed s → length (beforeTag s) ≤ 3949
   short p = omega (arith, p .few, length-drop 45 (beforeTag s), sites-short (numberAt s 43 2) (drop 45 (beforeTag s)) (p .placed))
+
+  pub sizes : Passed s → (61 ≤ length s) × (length s ≤ 3981)
+  sizes p =
+      let before = length-take-le (tagStart s) s (omega arith) in
+      (p .long, omega (arith, short p, before, half-digest (hashIn s), digest-most (hashIn s)))
 
   -- a report that is let pass reads as its fields
   pub read-fields : readOf s .0 ≡ done → readOf s .1 ≡ fieldsOf s

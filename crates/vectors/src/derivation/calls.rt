@@ -1,7 +1,15 @@
 // The calls of HKDF, each with what it answers. Outputs hold a5 everywhere before.
 use crate::say;
 
-// The number and the output of a call; of a long output its SHA-256 digest.
+// The SHA-256 digest of a long output.
+fn digest_of(out: &[u8]) {
+    let mut digest = [0u8; 32];
+    hash::digest(1, out, &mut digest);
+    say::text(b"SHA-256 ");
+    say::hex(&digest);
+}
+
+// The number and the output of a call; of a long output its digest.
 fn answer(number: u32, out: &[u8]) {
     say::number(number as u64);
     say::text(b", ");
@@ -10,10 +18,7 @@ fn answer(number: u32, out: &[u8]) {
     if out.len() <= 100 {
         say::hex(out);
     } else {
-        let mut digest = [0u8; 32];
-        hash::digest(1, out, &mut digest);
-        say::text(b"SHA-256 ");
-        say::hex(&digest);
+        digest_of(out);
     }
     say::text(b"\n");
 }

@@ -15,19 +15,43 @@ fn counted(first: u8) -> [u8; 80]
     bytes
 }
 
-// RFC 5869, appendix A, cases 1 to 3.
-pub(crate) fn published() {
-    let from_00 = counted(0x00);
-    let from_60 = counted(0x60);
-    let from_b0 = counted(0xb0);
-    let from_f0 = counted(0xf0);
+fn case_1() {
+    let salt = counted(0x00);
     let material = [0x0bu8; 22];
+    let info = counted(0xf0);
     say::text(b"RFC 5869, case 1\n");
-    calls::derive(1, &from_00[0..13], &material, &from_f0[0..10], 42);
+    calls::derive(1, &salt[0..13], &material, &info[0..10], 42);
+}
+
+fn case_2() {
+    let salt = counted(0x60);
+    let material = counted(0x00);
+    let info = counted(0xb0);
     say::text(b"RFC 5869, case 2\n");
-    calls::derive(1, &from_60, &from_00, &from_b0, 82);
+    calls::derive(1, &salt, &material, &info, 82);
+}
+
+fn case_3() {
+    let material = [0x0bu8; 22];
     say::text(b"RFC 5869, case 3\n");
     calls::derive(1, b"", &material, b"", 42);
+}
+
+// RFC 5869, appendix A.
+pub(crate) fn published() {
+    case_1();
+    case_2();
+    case_3();
+}
+
+fn salted(number: u32, size: usize) {
+    let material = [0x0bu8; 22];
+    calls::derive(number, b"salt", &material, b"info", size);
+}
+
+fn unsalted(number: u32, size: usize) {
+    let material = [0x0bu8; 22];
+    calls::derive(number, b"", &material, b"", size);
 }
 
 // Both calls with each hash: outputs of none, one, a digest less one, a digest, one more, the most that expand gives, and more.
@@ -39,32 +63,35 @@ pub(crate) fn lengths(
     most: usize,
     too_many: usize,
 ) {
-    let material = [0x0bu8; 22];
     say::text(b"hash ");
     say::number(number as u64);
     say::text(b"\n");
-    calls::derive(number, b"salt", &material, b"info", 0);
-    calls::derive(number, b"salt", &material, b"info", 1);
-    calls::derive(number, b"salt", &material, b"info", less);
-    calls::derive(number, b"", &material, b"", size);
-    calls::derive(number, b"salt", &material, b"info", one_more);
-    calls::derive(number, b"salt", &material, b"info", most);
-    calls::derive(number, b"salt", &material, b"info", too_many);
+    salted(number, 0);
+    salted(number, 1);
+    salted(number, less);
+    unsalted(number, size);
+    salted(number, one_more);
+    salted(number, most);
+    salted(number, too_many);
+}
+
+// Fifty bytes under a key and with an info of these sizes.
+fn fifty(number: u32, key_size: usize, info_size: usize) {
+    let key = [0x0bu8; 65];
+    let info = [0x1fu8; 1025];
+    if key_size <= 65 {
+        if info_size <= 1025 {
+            calls::expand(number, &key[0..key_size], &info[0..info_size], 50);
+        }
+    }
 }
 
 // Keys and info on both sides of their limits, and outputs of extract of other sizes.
-pub(crate) fn limits(number: u32, size: usize) {
-    let key = [0x0bu8; 65];
-    let info = [0x1fu8; 1025];
-    if 1 <= size {
-        if size <= 64 {
-            calls::expand(number, &key[0..size], &info[0..1024], 50);
-            calls::expand(number, &key[0..size], &info, 50);
-            let short = size - 1;
-            calls::expand(number, &key[0..short], &info, 50);
-            calls::expand(number, &key, b"", 50);
-            calls::extract(number, b"salt", b"material", short);
-            calls::extract(number, b"salt", b"material", size + 1);
-        }
-    }
+pub(crate) fn limits(number: u32, less: usize, size: usize, one_more: usize) {
+    fifty(number, size, 1024);
+    fifty(number, size, 1025);
+    fifty(number, less, 1025);
+    fifty(number, 65, 0);
+    calls::extract(number, b"salt", b"material", less);
+    calls::extract(number, b"salt", b"material", one_more);
 }

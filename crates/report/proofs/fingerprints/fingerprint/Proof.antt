@@ -3,7 +3,7 @@ use mathlib.Core.Path.{_≡_, sym, ap, _∙_}
 use mathlib.Core.List.{List, _++_}
 use Prim.Native.Nat.{ℕ, _-_, _≤_}
 use native.Mathlib.Omega.{arith}
-use lib.ListN.{length, take, drop, length-drop}
+use lib.ListN.{length, take, drop, length-take, length-drop}
 use lib.Seq.{length-take-le, slice}
 use borrow.Author.Needs.{needs}
 use denote.Ref.{now}
@@ -25,19 +25,19 @@ use Rattle.report.proofs.fingerprints.fingerprint.Tie as tie
 
 -- the two pieces of a report that passes, and the tag of both
 module _ (s key : List ℕ) {r : Checked} (p : Read s r) where
-  pieces : (out : List ℕ) → length key ≤ mostBytes → length out ≡ 32
-      → TwoPieces (r .hash) key (take 22 (drop 4 s)) (take (r .end - 34) (drop 34 s)) out
-  pieces out l e =
+  pieces : (at : ℕ) (out : List ℕ) → length key ≤ mostBytes → length out ≡ 32
+      → TwoPieces (r .hash) key (take 22 (drop 4 s)) (take (r .end - at) (drop at s)) out
+  pieces at out l e =
       let low = end-low s p in
       let high = end-high s p in
       let few = short s (p .passes) in
       let before : length (beforeTag s) ≡ r .end = length-take-le (tagStart s) s (omega arith) ∙ sym (p .end) in
       let first : length (take 22 (drop 4 s)) ≡ 22 = length-take-le 22 (drop 4 s) (rw length-drop (omega arith)) in
-      let second : length (take (r .end - 34) (drop 34 s)) ≡ r .end - 34 = length-take-le (r .end - 34) (drop 34 s) (rw length-drop (omega arith)) in
+      let second = length-take (r .end - at) (drop at s) in
       record {
         known = ap names (p .hash) ∙ made s p;
         key-fits = l;
-        fits = omega (arith, block-most (hashOf (r .hash)));
+        fits = omega (arith, block-most (hashOf (r .hash)), second);
         size = e;
       }
 
@@ -107,7 +107,7 @@ tag-pieces-requires c κs =
     let key = now (start .args .fingerprint-key) in
     let p = read s (c .before .before .before .before .before .before .before .before .check-report .ensures) (c .before .before .before .before .before .before .if1 .left) in
     let fits = key-fits key (sym (c .before .before .before .before .before .key-number .ensures) ∙ c .before .before .before .before .if2 .left) in
-    pieces s key p (now (start .args .out)) fits (c .before .before .before .if3 .left)
+    pieces s key p _ (now (start .args .out)) fits (c .before .before .before .if3 .left)
 
 returns-4 : tie.Need-returns-4
 returns-4 c =

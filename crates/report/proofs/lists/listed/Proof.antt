@@ -1,4 +1,5 @@
 -- `report::lists::listed` meets its contract. Assumes nothing.
+use mathlib.Core.Path.{refl}
 use native.Mathlib.Omega.{arith}
 use borrow.Author.Needs.{needs}
 use Rattle.report.proofs.lists.listed.Statement.{statement}
@@ -14,4 +15,4 @@ listed-spec =
     (λ c. search needs)
     (λ c. search needs)
     (λ c. omega (arith, c .struct-known6 .given))
-    (λ c. search needs))
+    (λ c. refl))

@@ -12,9 +12,8 @@ use Rattle.algorithm.specs.Refusals.{done}
 use Rattle.algorithm.specs.Checks.{firstFailing, written}
 use Rattle.report.specs.Reading.{fieldsOf, readChecks, readOf}
 use Rattle.report.specs.Reading.Laws.{passed, read-fields}
-use Rattle.report.specs.Calls.{readingOf, numbersOf}
+use Rattle.report.specs.Calls.{readingOf, listOf, numbersOf}
 use Rattle.report.specs.Calls.Laws.{read-into-refused, read-into-wrong-size, read-into-accepted}
-use Rattle.report.specs.Inside.{listOf}
 use Rattle.report.specs.declared.reading.Reading.{Reading}
 use Rattle.report.proofs.lists.read_into.Statement.{statement}
 use Rattle.report.proofs.lists.read_into.Tie as tie

@@ -11,7 +11,7 @@ use Rattle.octets.specs.Copy.Laws.{over-long}
 use Rattle.algorithm.specs.Refusals.{done}
 use Rattle.algorithm.specs.Checks.{firstFailing, written}
 use Rattle.report.specs.Reading.{sitesIn}
-use Rattle.report.specs.Calls.{placeChecks, siteAnswer, siteNumbers}
+use Rattle.report.specs.Calls.{placeChecks, siteAnswer, siteList, siteNumbers}
 use Rattle.report.specs.Calls.Laws.{site-number, site-found, site-into-refused, site-into-wrong-size, site-into-accepted}
 use Rattle.report.specs.declared.sites.SiteAt.{SiteAt}
 use Rattle.report.proofs.lists.site_into.Statement.{statement}
@@ -21,17 +21,13 @@ module _ (s : List ℕ) (place : ℕ) {r : SiteAt} (e : r ≡ siteAnswer s place
   number-is : r .number ≡ firstFailing (placeChecks s place)
   number-is = ap (λ (x : SiteAt). x .number) e ∙ site-number s place
 
-  listed : SiteAt → List ℕ
-  listed x = x .start ∷ x .length ∷ x .live ∷ x .blocks ∷ []
-
   -- the list of a site that is found fills four places
   filled : (numbers : List ℕ) → length numbers ≡ 4 → r .number ≡ done
-      → over (r .start ∷ r .length ∷ r .live ∷ r .blocks ∷ []) numbers ≡ siteNumbers (sitesIn s .1) place
-  unfolding listed
+      → over (siteList r) numbers ≡ siteNumbers (sitesIn s .1) place
   filled numbers n d =
-      over-long (listed r) numbers (omega arith)
-      ∙ ap (λ (k : ℕ). take k (listed r)) n
-      ∙ ap listed (e ∙ site-found s place (sym number-is ∙ d))
+      over-long (siteList r) numbers (omega arith)
+      ∙ ap (λ (k : ℕ). take k (siteList r)) n
+      ∙ ap siteList (e ∙ site-found s place (sym number-is ∙ d))
 
 returns : tie.Need-returns
 returns c =

@@ -1,0 +1,4 @@
+pub mod Found
+pub mod Judging
+pub mod Sum
+pub mod Tally

@@ -1,0 +1,69 @@
+#!/usr/bin/env python3
+"""Whether every impostor was refused for itself, and whether docs/PROMISES.md names them all.
+
+An edit under crates/NAME/must-fail starts with a line for each impostor that it makes:
+
+    # IMPOSTOR, in FUNCTION: what is wrong with it
+
+where FUNCTION is the one whose text it changes, or `the definition`. rt refuses an edit as soon as one function is not proved. So that
+one edit can hold impostors of several functions, this reads rt's log of each edit (under target/must-fail, after rt ci) and wants to
+see each of the functions not proved for a reason of its own, and not because it calls another that is not proved.
+"""
+
+import pathlib
+import re
+import sys
+
+ROOT = pathlib.Path(__file__).resolve().parent.parent
+HEAD = re.compile(r"# (\w+), in ([a-z_0-9:]+|the definition): .+")
+
+
+def impostors(edit):
+    """The impostors of an edit, each with its function."""
+    lines = [line for line in edit.read_text().splitlines() if line.startswith("#")]
+    found = [HEAD.fullmatch(line) for line in lines]
+    if not found or None in found:
+        sys.exit(f"{edit.relative_to(ROOT)}: each comment must read '# IMPOSTOR, in FUNCTION: what is wrong'")
+    return [match.groups() for match in found]
+
+
+def refused_itself(log, crate, function):
+    """Whether a log says of a function that it has no proof, for a reason of its own."""
+    verdict = re.escape(f"fn {crate}::{function}: ") + r"(not proved$|no proof: )"
+    return re.search("^" + verdict, log, re.MULTILINE) is not None
+
+
+def listed():
+    """The impostors in the tables of docs/PROMISES.md, and all names that the page has between backticks."""
+    names, column = set(), None
+    text = (ROOT / "docs/PROMISES.md").read_text()
+    for line in text.splitlines():
+        cells = [cell.strip() for cell in line.strip("|").split("|")] if line.startswith("|") else []
+        if not cells:
+            column = None
+        elif "impostors" in cells:
+            column = cells.index("impostors")
+        elif column is not None:
+            names.update(re.findall(r"`(\w+)`", cells[column]))
+    return names, set(re.findall(r"`(\w+)`", text))
+
+
+def main():
+    tried, faults = set(), []
+    for edit in sorted(ROOT.glob("crates/*/must-fail/*.edit")):
+        crate = edit.parent.parent.name
+        log = ROOT / "target/must-fail" / crate / edit.stem / ".log"
+        for name, function in impostors(edit):
+            tried.add(name)
+            if function != "the definition" and not refused_itself(log.read_text(), crate, function):
+                faults.append(f"{edit.relative_to(ROOT)}: {name}: {function} is not refused for itself")
+    in_tables, in_page = listed()
+    faults += [f"docs/PROMISES.md does not name the impostor {name}" for name in sorted(tried - in_page)]
+    faults += [f"docs/PROMISES.md names {name}, which no edit makes" for name in sorted(in_tables - tried)]
+    if faults:
+        sys.exit("\n".join(faults))
+    print(f"impostors: {len(tried)} tried, each refused for itself")
+
+
+if __name__ == "__main__":
+    main()

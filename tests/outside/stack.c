@@ -1,0 +1,139 @@
+/* Measures the stack that each call takes, in the x86-64 code of the archive, and holds it to what docs/LIMITS.md says.
+ *
+ * A call runs in a thread, on a stack that the thread filled with one byte before; the deepest byte that changed says how far the
+ * call went. The bytes are counted from the frame of the thread's own function, so that the call's return address and its arguments
+ * are among them. Each call takes what leads it deepest: keys longer than a block, messages and outputs of many blocks, the largest
+ * report, and a tag that differs. */
+#define _DEFAULT_SOURCE
+#include "tirmuzzle.h"
+
+#include <pthread.h>
+#include <stdio.h>
+#include <stdlib.h>
+#include <sys/mman.h>
+
+enum { STACK = 1 << 17, MARGIN = 128, KEY = 300, MESSAGE = 5000, INFO = 1024, LONGEST_OUTPUT = 255 * TIRMUZZLE_SHA512_DIGEST };
+
+static uint8_t key[KEY], message[MESSAGE], out[LONGEST_OUTPUT], report[TIRMUZZLE_LARGEST_REPORT];
+static const uint8_t no_tag[TIRMUZZLE_SHA512_DIGEST];
+static uint8_t *stack; /* the lowest byte of the thread's stack */
+static uint64_t words[TIRMUZZLE_FIELDS];
+static size_t report_length, digest_length;
+static uint32_t hash;
+
+static uint32_t digest(void) { return tirmuzzle_digest(hash, message, MESSAGE, out, digest_length); }
+static uint32_t tag(void) { return tirmuzzle_tag(hash, key, KEY, message, MESSAGE, digest_length, out, digest_length); }
+static uint32_t verify(void) { return tirmuzzle_verify(hash, key, KEY, message, MESSAGE, digest_length, no_tag, digest_length); }
+static uint32_t extract(void) { return tirmuzzle_extract(hash, key, KEY, message, MESSAGE, out, digest_length); }
+static uint32_t expand(void) { return tirmuzzle_expand(hash, key, KEY, message, INFO, out, 255 * digest_length); }
+static uint32_t fingerprint(void) { return tirmuzzle_report_fingerprint(report, report_length, key, KEY, out, 32); }
+static uint32_t keys(void) { return tirmuzzle_report_keys(hash, key, KEY, 7, 258, out, 2 * digest_length); }
+static uint32_t check(void) { return tirmuzzle_report_check(report, report_length, key, KEY); }
+static uint32_t read(void) { return tirmuzzle_report_read(report, report_length, words, TIRMUZZLE_FIELDS); }
+static uint32_t site(void) { return tirmuzzle_report_site(report, report_length, 63, words, TIRMUZZLE_SITE_NUMBERS); }
+
+/* Each call, the number that it answers here, and the most bytes of stack that docs/LIMITS.md allows it. */
+static const struct {
+    const char *name;
+    uint32_t (*call)(void);
+    uint32_t answer;
+    size_t limit;
+} calls[] = {
+    {"tirmuzzle_tag", tag, 0, 5120},
+    {"tirmuzzle_verify", verify, 1, 5120},
+    {"tirmuzzle_extract", extract, 0, 5120},
+    {"tirmuzzle_expand", expand, 0, 6144},
+    {"tirmuzzle_report_fingerprint", fingerprint, 0, 5120},
+    {"tirmuzzle_digest", digest, 0, 3072},
+    {"tirmuzzle_report_keys", keys, 0, 6144},
+    {"tirmuzzle_report_check", check, 1, 5120},
+    {"tirmuzzle_report_read", read, 0, 512},
+    {"tirmuzzle_report_site", site, 0, 512},
+};
+enum { CALLS = sizeof calls / sizeof calls[0] };
+
+static void require(int holds, const char *what)
+{
+    if (!holds) {
+        fprintf(stderr, "stack: %s\n", what);
+        exit(2);
+    }
+}
+
+/* What one call took on a stack filled with a byte. */
+struct measure {
+    size_t call;
+    uint8_t filling;
+    uint32_t answer;
+    size_t bytes;
+};
+
+/* MARGIN leaves the frame at work alone, so that no call is measured with less. */
+static void *on_own_stack(void *pointer)
+{
+    struct measure *measure = pointer;
+    uint8_t here;
+    const uint8_t *volatile start = &here;
+    for (uint8_t *at = stack; at < start - MARGIN; at++)
+        *at = measure->filling;
+    measure->answer = calls[measure->call].call();
+    const uint8_t *deepest = stack;
+    while (*deepest == measure->filling)
+        deepest++;
+    measure->bytes = (size_t)(start - deepest);
+    return NULL;
+}
+
+static void put_number(size_t at, uint64_t number, int bytes)
+{
+    while (bytes-- > 0)
+        report[at++] = (uint8_t)(number >> 8 * bytes);
+}
+
+/* The largest report under the hash: 64 sites with labels of 48 bytes. The tag is left zero, so that it differs. */
+static void build_report(void)
+{
+    report_length = hash == TIRMUZZLE_SHA256 ? TIRMUZZLE_LARGEST_REPORT - 16 : TIRMUZZLE_LARGEST_REPORT;
+    put_number(0, report_length - 4, 4);
+    put_number(4, 1, 1);
+    put_number(5, hash, 1);
+    put_number(43, 64, 2);
+    for (size_t i = 0; i < 64; i++)
+        put_number(45 + i * 61, 48, 1);
+}
+
+/* The bytes of stack that a call takes, where the stack is filled with this byte. */
+static size_t measured(size_t call, uint8_t filling)
+{
+    struct measure measure = {call, filling, 0, 0};
+    pthread_attr_t attributes;
+    pthread_t thread;
+    require(pthread_attr_init(&attributes) == 0 && pthread_attr_setstack(&attributes, stack, STACK) == 0, "no stack for a thread");
+    require(pthread_create(&thread, &attributes, on_own_stack, &measure) == 0, "no thread");
+    require(pthread_join(thread, NULL) == 0 && pthread_attr_destroy(&attributes) == 0, "the thread does not end");
+    require(measure.answer == calls[call].answer, "a call answers another number");
+    return measure.bytes;
+}
+
+int main(void)
+{
+    int over = 0;
+    stack = mmap(NULL, STACK, PROT_READ | PROT_WRITE, MAP_PRIVATE | MAP_ANONYMOUS, -1, 0);
+    require(stack != MAP_FAILED, "out of memory");
+    for (size_t call = 0; call < CALLS; call++) {
+        size_t most = 0;
+        for (hash = TIRMUZZLE_SHA256; hash <= TIRMUZZLE_SHA512; hash++) {
+            digest_length = hash == TIRMUZZLE_SHA256 ? TIRMUZZLE_SHA256_DIGEST : TIRMUZZLE_SHA512_DIGEST;
+            build_report();
+            measured(call, 0); /* not counted: the loader may still have to look up memcpy, on the same stack */
+            size_t one = measured(call, 0x5a), other = measured(call, 0xab);
+            most = one > most ? one : most;
+            most = other > most ? other : most;
+        }
+        printf("%-28s %5lu bytes of stack, at most %lu\n", calls[call].name, (unsigned long)most, (unsigned long)calls[call].limit);
+        over |= most > calls[call].limit;
+    }
+    require(!over, "a call takes more stack than docs/LIMITS.md says");
+    printf("%d calls, each within the stack that docs/LIMITS.md says\n", CALLS);
+    return 0;
+}
