@@ -179,12 +179,14 @@ def run():
     """Every case, and random captures, each in a folder of its own outside the repository."""
     chance = random.Random(SEED)
     randoms = [(f"random capture {i}", random_capture(chance), PRK_64) for i in range(RANDOM_CAPTURES)]
-    for name, capture, prk in [*cases(), ("demonstration", demonstration(), PRK_64), *randoms]:
+    shown = [*cases(), ("demonstration", demonstration(), PRK_64), *randoms]
+    for name, capture, prk in shown:
         with tempfile.TemporaryDirectory() as folder:
             for file, content in (("a capture", capture), ("prk", prk)):
                 if content is not None:
                     (pathlib.Path(folder) / file).write_bytes(content)
             run_one(folder, name, capture, prk)
+    print(f"captures: {len(shown)} shown as they must be, seed {SEED}")
 
 
 def main(arguments):

@@ -7,7 +7,8 @@ An edit under crates/NAME/must-fail starts with a line for each impostor that it
 
 where FUNCTION is the one whose text it changes, or `the definition`. rt refuses an edit as soon as one function is not proved. So that
 one edit can hold impostors of several functions, this reads rt's log of each edit (under target/must-fail, after rt ci) and wants to
-see each of the functions not proved for a reason of its own, and not because it calls another that is not proved.
+see each of the functions not proved for a reason of its own, and not because it calls another that is not proved. An edit of a
+definition is judged as a whole, by rt alone.
 """
 
 import pathlib
@@ -34,35 +35,42 @@ def refused_itself(log, crate, function):
 
 
 def listed():
-    """The impostors in the tables of docs/PROMISES.md, and all names that the page has between backticks."""
-    names, column = set(), None
-    text = (ROOT / "docs/PROMISES.md").read_text()
-    for line in text.splitlines():
+    """What docs/PROMISES.md says of each crate: the impostors in its tables, and all names between backticks in its section. What
+    stands in no crate's own section is said of the programs."""
+    in_tables, in_section = set(), set()
+    crate, column = "", None
+    for line in (ROOT / "docs/PROMISES.md").read_text().splitlines():
+        if line.startswith("## "):
+            crate = line[3:]
         cells = [cell.strip() for cell in line.strip("|").split("|")] if line.startswith("|") else []
         if not cells:
             column = None
         elif "impostors" in cells:
             column = cells.index("impostors")
         elif column is not None:
-            names.update(re.findall(r"`(\w+)`", cells[column]))
-    return names, set(re.findall(r"`(\w+)`", text))
+            in_tables.update((crate, name) for name in re.findall(r"`(\w+)`", cells[column]))
+        section = crate if (ROOT / "crates" / crate).is_dir() else "inspect"
+        in_section.update((section, name) for name in re.findall(r"`(\w+)`", line))
+    return in_tables, in_section
 
 
 def main():
-    tried, faults = set(), []
+    tried, of_definitions, faults = set(), set(), []
     for edit in sorted(ROOT.glob("crates/*/must-fail/*.edit")):
         crate = edit.parent.parent.name
-        log = ROOT / "target/must-fail" / crate / edit.stem / ".log"
+        log = (ROOT / "target/must-fail" / crate / edit.stem / ".log").read_text()
         for name, function in impostors(edit):
-            tried.add(name)
-            if function != "the definition" and not refused_itself(log.read_text(), crate, function):
+            tried.add((crate, name))
+            if function == "the definition":
+                of_definitions.add((crate, name))
+            elif not refused_itself(log, crate, function):
                 faults.append(f"{edit.relative_to(ROOT)}: {name}: {function} is not refused for itself")
-    in_tables, in_page = listed()
-    faults += [f"docs/PROMISES.md does not name the impostor {name}" for name in sorted(tried - in_page)]
-    faults += [f"docs/PROMISES.md names {name}, which no edit makes" for name in sorted(in_tables - tried)]
+    in_tables, in_section = listed()
+    faults += [f"docs/PROMISES.md does not name {crate}'s impostor {name}" for crate, name in sorted(tried - in_section)]
+    faults += [f"docs/PROMISES.md names {crate}'s impostor {name}, which no edit makes" for crate, name in sorted(in_tables - tried)]
     if faults:
         sys.exit("\n".join(faults))
-    print(f"impostors: {len(tried)} tried, each refused for itself")
+    print(f"impostors: {len(tried - of_definitions)}, each refused for itself, and {len(of_definitions)} wrong definitions")
 
 
 if __name__ == "__main__":

@@ -1,5 +1,5 @@
 -- What a capture holds next. Assumes nothing.
-use Prim.Native.Nat.{ℕ, _≤_}
+use Prim.Native.Nat.{_≤_}
 use Rattle.inspect.specs.declared.capture.Found.{Found}
 use Rattle.inspect.specs.declared.capture.Found.the-variants.{Report, End, CutCount, CutReport, Wild, Failed}
 

@@ -2,7 +2,10 @@
 ghost use mathlib.Core.Path.{_≡_};
 ghost use Prim.Native.Nat.{_+_, _<_, _≤_};
 ghost use lib.ListN.{length};
-ghost use Rattle.inspect.specs.Tally.{Adds};
+ghost use Rattle.report.specs.Reading.{readOf};
+ghost use Rattle.report.specs.Calls.{readingOf};
+ghost use Rattle.inspect.specs.Judging.{lineOf};
+ghost use Rattle.inspect.specs.Tally.{Adds, liveWith};
 use crate::capture;
 use crate::capture::Found;
 use crate::ending;
@@ -19,6 +22,7 @@ fn inspect_one(report: &[u8], prk: &[u8], before: Tally) -> Tally
     requires { ⌜ length (now report) ≤ 3981 ⌝ }
     ensures { λ r. ⌜ Adds r ⌝ }
     ensures { λ r. ⌜ r .reports ≡ before .reports + 1 ⌝ }
+    ensures { λ r. ⌜ r .live ≡ liveWith before (lineOf (now (report .entry)) (readingOf (readOf (now (report .entry)))) (now (prk .entry))) (readingOf (readOf (now (report .entry))) .live) ⌝ }
 {
     let read = report::read(report);
     if read.number != algorithm::DONE {

@@ -1,7 +1,7 @@
 // The judgement on a report that reading lets pass: its tag and its fingerprint, under the keys of its machine.
 ghost use mathlib.Core.Path.{_≡_};
 ghost use Rattle.report.specs.Calls.{keysAnswer};
-ghost use Rattle.inspect.specs.Judging.{verdictUnder, fingerprintUnder, verdictOf, keySpace};
+ghost use Rattle.inspect.specs.Judging.{verdictUnder, fingerprintUnder, verdictOf, judgedOf};
 use report::Reading;
 
 // The number of the tag's check, or the one that refuses the PRK; and the fingerprint, zeros where the PRK is refused.
@@ -40,7 +40,7 @@ fn judge_in(report: &[u8], read: Reading, prk: &[u8], keys: &mut [u8]) -> Judged
 
 // The judgement on a report of which reading is given.
 pub(crate) fn judge(report: &[u8], read: Reading, prk: &[u8]) -> Judged
-    ensures { λ r. ⌜ r .number ≡ verdictOf (now (report .entry)) (keysAnswer (read .hash) (now (prk .entry)) (read .tenant) (read .machine) (keySpace (read .hash))) ⌝ }
+    ensures { λ r. ⌜ r .number ≡ judgedOf (now (report .entry)) read (now (prk .entry)) ⌝ }
 {
     if read.hash == 1 {
         let mut keys = [0u8; 64];

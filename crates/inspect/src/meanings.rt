@@ -1,6 +1,6 @@
 // What a number that comes back means (docs/PROTOCOL.md's table).
 
-// The words, as wide as their column. 0 needs no number beside them.
+// The words, as wide as their column. 0 needs no number beside them. The table is whole, although no report leads to some of its numbers.
 pub(crate) fn words(number: u32) -> [u8; 44] {
     match number {
         0 => *b"tag matches                                 ",

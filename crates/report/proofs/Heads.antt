@@ -14,10 +14,9 @@ use Rattle.algorithm.specs.Refusals.{done, unknownHash, wrongReportLength, tooM
 use Rattle.algorithm.specs.Checks.{firstFailing, Pass, Refusing}
 use Rattle.algorithm.specs.Checks.Pass.{and}
 use Rattle.algorithm.specs.Checks.Refusing.{none}
-use Rattle.algorithm.specs.Checks.Laws.{done-passes, append-refuses, append-passes}
+use Rattle.algorithm.specs.Checks.Laws.{done-passes, append-refuses, append-passes, refuses}
 use Rattle.report.specs.Layout.{Site, liveOf}
 use Rattle.report.specs.Reading.{namesHash, namedIn, hashIn, tagStart, readSites, sitesIn, startChecks, hashChecks, sitesChecks, readChecks}
-use Rattle.report.specs.Reading.Laws.{refuses}
 use Rattle.report.specs.Calls.Laws.{named-unknown, named-is}
 use Rattle.report.specs.Inside.{headChecks, stoppedHead, headOf, stopped, checkedOf, Walked}
 use Rattle.report.specs.declared.checks.Head.{Head}

@@ -4,10 +4,11 @@ use mathlib.Core.Path.{_≡_, refl, sym, subst, _∙_}
 use mathlib.Core.Logic.{_↔_}
 use mathlib.Core.Bool.{Bool, true, false}
 use mathlib.Core.List.{List, [], _∷_, _++_}
-use Prim.Native.Nat.{ℕ}
+use Prim.Native.Nat.{ℕ, suc}
+use native.Mathlib.Omega.{arith}
 use borrow.Author.Tests.{eq-eqb, ne-eqb}
 use Rattle.algorithm.specs.Refusals.{done}
-use Rattle.algorithm.specs.Checks.{Check, firstFailing, decided, Pass, Fail, Refusing}
+use Rattle.algorithm.specs.Checks.{Check, check, firstFailing, decided, Pass, Fail, Refusing}
 use Rattle.algorithm.specs.Checks.Pass.{all, and}
 use Rattle.algorithm.specs.Checks.Fail.{here, later}
 use Rattle.algorithm.specs.Checks.Refusing.{none, more}
@@ -50,6 +51,10 @@ done-passes (c ∷ cs) (more z r) e = elim (test (c .passes)) [
 -- a call is done exactly when every check passes
 pub exactly-done : (cs : List Check) → Refusing cs → firstFailing cs ≡ done ↔ Pass cs
 exactly-done cs r = (done-passes cs r, passes-done)
+
+-- a check that refuses, before others that do
+pub refuses : (b : Bool) (n : ℕ) {cs : List Check} → Refusing cs → Refusing (check b (suc n) ∷ cs)
+refuses b n r = more {c = check b (suc n)} (λ f e. omega arith) r
 
 -- checks behind others: where one of the first fails the rest play no part, and where all of them pass the rest decide
 pub append-refuses : (a b : List Check) → (firstFailing a ≡ done → ⊥) → firstFailing (a ++ b) ≡ firstFailing a

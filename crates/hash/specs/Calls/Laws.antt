@@ -4,7 +4,6 @@ use mathlib.Core.Logic.{_↔_}
 use mathlib.Core.Bool.{Bool, true, false}
 use mathlib.Core.List.{List}
 use Prim.Native.Nat.{ℕ, _+_, _≤_, _<_}
-use native.Mathlib.Omega.{arith}
 use lib.ListN.{length}
 use borrow.Author.Tests.{le-leb, lt-leb, eq-eqb, ne-eqb}
 use Rattle.algorithm.specs.Hashes.{names, hashOf, sizeOf}
@@ -13,8 +12,8 @@ use Rattle.hash.specs.Digest.{digestOf}
 use Rattle.hash.specs.State.{soundOf, Held, freshOf, zeroState, afterOf, endOf}
 use Rattle.hash.specs.State.Laws.{fresh-held, zero-held}
 use Rattle.algorithm.specs.Checks.{Fail, Pass, written}
-use Rattle.algorithm.specs.Checks.Refusing.{none, more}
-use Rattle.algorithm.specs.Checks.Laws.{exactly, exactly-done, refused-given}
+use Rattle.algorithm.specs.Checks.Refusing.{none}
+use Rattle.algorithm.specs.Checks.Laws.{exactly, exactly-done, refuses, refused-given}
 use Rattle.hash.specs.Calls.{startChecks, updateChecks, finishChecks, digestChecks, startOf, updateOf, finishOf, digestAnswer}
 use Rattle.hash.specs.declared.state.State.{State}
 use Rattle.hash.specs.declared.state.Started.{Started}
@@ -105,19 +104,19 @@ module _ (k : ℕ) (refusal : k ≡ done → ⊥) where
 -- a call is done exactly when every check passes
 pub start-done : (n : ℕ) → startOf n .number ≡ done ↔ Pass (startChecks n)
 unfolding startOf
-start-done n = exactly-done (startChecks n) (more (λ f e. omega arith) none)
+start-done n = exactly-done (startChecks n) (refuses _ _ none)
 
 pub update-done : (s : State) (p : List ℕ) → updateOf s p .number ≡ done ↔ Pass (updateChecks s p)
 unfolding updateOf
-update-done s p = exactly-done (updateChecks s p) (more (λ f e. omega arith) (more (λ f e. omega arith) none))
+update-done s p = exactly-done (updateChecks s p) (refuses _ _ (refuses _ _ none))
 
 pub finish-done : (s : State) (out : List ℕ) → finishOf s out .0 ≡ done ↔ Pass (finishChecks s out)
 unfolding finishOf
-finish-done s out = exactly-done (finishChecks s out) (more (λ f e. omega arith) (more (λ f e. omega arith) none))
+finish-done s out = exactly-done (finishChecks s out) (refuses _ _ (refuses _ _ none))
 
 pub digest-done : (n : ℕ) (m out : List ℕ) → digestAnswer n m out .0 ≡ done ↔ Pass (digestChecks n m out)
 unfolding digestAnswer
-digest-done n m out = exactly-done (digestChecks n m out) (more (λ f e. omega arith) (more (λ f e. omega arith) (more (λ f e. omega arith) none)))
+digest-done n m out = exactly-done (digestChecks n m out) (refuses _ _ (refuses _ _ (refuses _ _ none)))
 
 -- every start hands back a sound state, also a refused one
 pub start-held : (n : ℕ) → Held (startOf n .state)

@@ -8,9 +8,9 @@ use lib.ListN.{length}
 use borrow.Author.Tests.{le-leb, lt-leb, eq-eqb, ne-eqb}
 use Rattle.algorithm.specs.Hashes.{names, hashOf, blockOf, sizeOf}
 use Rattle.algorithm.specs.Refusals.{done, unknownHash, keyTooLong, messageTooLong, wrongSize, prkTooShort, infoTooLong, outputTooLong, mostBytes}
-use Rattle.algorithm.specs.Checks.{written}
-use Rattle.algorithm.specs.Checks.{Fail}
-use Rattle.algorithm.specs.Checks.Laws.{exactly}
+use Rattle.algorithm.specs.Checks.{Fail, Pass, written}
+use Rattle.algorithm.specs.Checks.Refusing.{none}
+use Rattle.algorithm.specs.Checks.Laws.{exactly, exactly-done, refuses}
 use Rattle.hkdf.specs.Hkdf.{extractOf, expandOf}
 use Rattle.hkdf.specs.Calls.{expandChecks, extractChecks, mostInfo, extractAnswer, expandAnswer}
 
@@ -82,3 +82,13 @@ module _ (r : ℕ) (refusal : r ≡ done → ⊥) where
   pub expand-exactly : (n : ℕ) (prk info out : List ℕ) → expandAnswer n prk info out .0 ≡ r ↔ Fail (expandChecks n prk info out) r
   unfolding expandAnswer
   expand-exactly n prk info out = exactly (expandChecks n prk info out) r refusal
+
+-- a call is done exactly when every check passes
+pub extract-done : (n : ℕ) (salt ikm out : List ℕ) → extractAnswer n salt ikm out .0 ≡ done ↔ Pass (extractChecks n salt ikm out)
+unfolding extractAnswer
+extract-done n salt ikm out = exactly-done (extractChecks n salt ikm out) (refuses _ _ (refuses _ _ (refuses _ _ (refuses _ _ none))))
+
+pub expand-done : (n : ℕ) (prk info out : List ℕ) → expandAnswer n prk info out .0 ≡ done ↔ Pass (expandChecks n prk info out)
+unfolding expandAnswer
+expand-done n prk info out =
+    exactly-done (expandChecks n prk info out) (refuses _ _ (refuses _ _ (refuses _ _ (refuses _ _ (refuses _ _ none)))))

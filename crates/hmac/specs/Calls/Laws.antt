@@ -14,8 +14,9 @@ use Rattle.octets.specs.Same.Laws.{equal-tells}
 use Rattle.algorithm.specs.declared.hashes.Hash.{Hash}
 use Rattle.algorithm.specs.Hashes.{names, hashOf, blockOf, sizeOf, shortestOf}
 use Rattle.algorithm.specs.Refusals.{done, tagDiffers, unknownHash, keyTooLong, messageTooLong, tagLengthOutOfRange, wrongSize, stateNotSound, mostBytes}
-use Rattle.algorithm.specs.Checks.{Fail, written, check, firstFailing, answered}
-use Rattle.algorithm.specs.Checks.Laws.{exactly, refused-given}
+use Rattle.algorithm.specs.Checks.{Fail, Pass, written, check, firstFailing, answered}
+use Rattle.algorithm.specs.Checks.Refusing.{none}
+use Rattle.algorithm.specs.Checks.Laws.{exactly, exactly-done, refuses, refused-given}
 use Rattle.hmac.specs.Hmac.{tagOf}
 use Rattle.hmac.specs.Keyed.{Message, soundKeyed, freshKeyed, zeroKeyed, afterKeyed, fullTag}
 use Rattle.hmac.specs.Calls.{allowed, startChecks, updateChecks, tagChecks, verifyChecks, messageChecks, startOf, updateOf, tagAnswer, verifyAnswer, tagMessageAnswer, verifyMessageAnswer}
@@ -182,6 +183,36 @@ module _ (r : ℕ) (refusal : r ≡ done → ⊥) where
       ↔ Fail (messageChecks n key m t presented (check (equal presented (tagOf (hashOf n) key t m)) tagDiffers ∷ [])) r
   unfolding verifyMessageAnswer
   verify-message-exactly n key m t presented = exactly _ r refusal
+
+-- a call is done exactly when every check passes
+pub start-done : (n : ℕ) (key : List ℕ) → startOf n key .number ≡ done ↔ Pass (startChecks n key)
+unfolding startOf
+start-done n key = exactly-done (startChecks n key) (refuses _ _ (refuses _ _ none))
+
+pub update-done : (k : Keyed) (p : List ℕ) → updateOf k p .number ≡ done ↔ Pass (updateChecks k p)
+unfolding updateOf
+update-done k p = exactly-done (updateChecks k p) (refuses _ _ (refuses _ _ none))
+
+pub tag-done : (k : Keyed) (t : ℕ) (out : List ℕ) → tagAnswer k t out .0 ≡ done ↔ Pass (tagChecks k t out)
+unfolding tagAnswer
+tag-done k t out = exactly-done (tagChecks k t out) (refuses _ _ (refuses _ _ (refuses _ _ none)))
+
+pub verify-done : (k : Keyed) (t : ℕ) (presented : List ℕ) → verifyAnswer k t presented ≡ done ↔ Pass (verifyChecks k t presented)
+unfolding verifyAnswer
+verify-done k t presented = exactly-done (verifyChecks k t presented) (refuses _ _ (refuses _ _ (refuses _ _ (refuses _ _ none))))
+
+pub tag-message-done : (n : ℕ) (key m : List ℕ) (t : ℕ) (out : List ℕ)
+    → tagMessageAnswer n key m t out .0 ≡ done ↔ Pass (messageChecks n key m t out [])
+unfolding tagMessageAnswer
+tag-message-done n key m t out =
+    exactly-done (messageChecks n key m t out []) (refuses _ _ (refuses _ _ (refuses _ _ (refuses _ _ (refuses _ _ none)))))
+
+pub verify-message-done : (n : ℕ) (key m : List ℕ) (t : ℕ) (presented : List ℕ)
+    → verifyMessageAnswer n key m t presented ≡ done
+    ↔ Pass (messageChecks n key m t presented (check (equal presented (tagOf (hashOf n) key t m)) tagDiffers ∷ []))
+unfolding verifyMessageAnswer
+verify-message-done n key m t presented =
+    exactly-done _ (refuses _ _ (refuses _ _ (refuses _ _ (refuses _ _ (refuses _ _ (refuses _ _ none))))))
 
 -- once no other check fails, verify says yes exactly to the tag
 pub says-yes : (a b : List ℕ) → cond (equal a b) done tagDiffers ≡ done ↔ (a ≡ b)

@@ -23,11 +23,11 @@ use Rattle.algorithm.specs.Refusals.{done, tagDiffers, unknownHash, keyTooLong,
 use Rattle.algorithm.specs.Checks.{Check, check, firstFailing, Pass, Refusing, Fail, written, answered}
 use Rattle.algorithm.specs.Checks.Pass.{all, and}
 use Rattle.algorithm.specs.Checks.Refusing.{none, more}
-use Rattle.algorithm.specs.Checks.Laws.{exactly, done-passes, append-refuses, append-passes, refusing-append, refused-given, done-work}
+use Rattle.algorithm.specs.Checks.Laws.{exactly, exactly-done, done-passes, refuses, append-refuses, append-passes, refusing-append, refused-given, done-work}
 use Rattle.hmac.specs.Hmac.{tagOf}
 use Rattle.hmac.specs.Calls.Laws.{says-yes}
 use Rattle.report.specs.Reading.{namesHash, hashNamed, namedIn, hashIn, tagStart, beforeTag, firstSite, readSites, sitesIn, readChecks, fieldsOf, readOf}
-use Rattle.report.specs.Reading.Laws.{refuses, read-refusing, First, first, Passed, passed, passes, passes-then}
+use Rattle.report.specs.Reading.Laws.{read-refusing, First, first, Passed, passed, passes, passes-then}
 use Rattle.report.specs.Fingerprint.{fingerprintOf}
 use Rattle.report.specs.Keys.{keysOf}
 use Rattle.report.specs.Layout.{Site, liveOf}
@@ -429,3 +429,40 @@ module _ (r : ℕ) (refusal : r ≡ done → ⊥) where
       → keysAnswer n prk tenant machine out .0 ≡ r ↔ Fail (keysChecks n prk out) r
   unfolding keysAnswer
   keys-exactly n prk tenant machine out = exactly (keysChecks n prk out) r refusal
+
+-- a call is done exactly when every check passes
+pub read-done : (s : List ℕ) → readOf s .0 ≡ done ↔ Pass (readChecks s)
+unfolding readOf
+read-done s = exactly-done (readChecks s) (read-refusing s)
+
+pub site-done : (s : List ℕ) (place : ℕ) → siteAnswer s place .number ≡ done ↔ Pass (placeChecks s place)
+site-done s place =
+    subst (λ (n : ℕ). n ≡ done ↔ Pass (placeChecks s place)) (sym (site-number s place)) (exactly-done (placeChecks s place) (place-refusing s place))
+
+pub read-into-done : (s fields : List ℕ) → readIntoAnswer s fields .0 ≡ done ↔ Pass (readIntoChecks s fields)
+unfolding readIntoAnswer
+read-into-done s fields =
+    exactly-done (readIntoChecks s fields) (refusing-append (readChecks s) _ (read-refusing s) (refuses _ _ none))
+
+pub site-into-done : (s : List ℕ) (place : ℕ) (numbers : List ℕ) → siteIntoAnswer s place numbers .0 ≡ done ↔ Pass (siteIntoChecks s place numbers)
+unfolding siteIntoAnswer
+site-into-done s place numbers =
+    exactly-done (siteIntoChecks s place numbers) (refusing-append (placeChecks s place) _ (place-refusing s place) (refuses _ _ none))
+
+pub label-done : (s : List ℕ) (place : ℕ) → labelAnswer s place .0 ≡ done ↔ Pass (placeChecks s place)
+unfolding labelAnswer
+label-done s place = exactly-done (placeChecks s place) (place-refusing s place)
+
+pub check-done : (s key : List ℕ) → checkAnswer s key ≡ done ↔ Pass (tagChecks s key)
+unfolding checkAnswer
+check-done s key = exactly-done (tagChecks s key) (refusing-append (readChecks s) _ (read-refusing s) (refuses _ _ (refuses _ _ none)))
+
+pub fingerprint-done : (s key out : List ℕ) → fingerprintAnswer s key out .0 ≡ done ↔ Pass (fingerprintChecks s key out)
+unfolding fingerprintAnswer
+fingerprint-done s key out =
+    exactly-done (fingerprintChecks s key out) (refusing-append (readChecks s) _ (read-refusing s) (refuses _ _ (refuses _ _ none)))
+
+pub keys-done : (n : ℕ) (prk : List ℕ) (tenant machine : ℕ) (out : List ℕ)
+    → keysAnswer n prk tenant machine out .0 ≡ done ↔ Pass (keysChecks n prk out)
+unfolding keysAnswer
+keys-done n prk tenant machine out = exactly-done (keysChecks n prk out) (refuses _ _ (refuses _ _ (refuses _ _ (refuses _ _ none))))

@@ -17,10 +17,10 @@ use Rattle.octets.specs.Every.Laws.{and-parts, every-take, every-drop}
 use Rattle.algorithm.specs.Hashes.{shortestOf}
 use Rattle.algorithm.specs.Hashes.Laws.{half-digest, digest-most}
 use Rattle.algorithm.specs.Refusals.{done, labelLengthOutOfRange, sitesMisplaced}
-use Rattle.algorithm.specs.Checks.{Check, check, firstFailing, Pass, Refusing}
+use Rattle.algorithm.specs.Checks.{Check, firstFailing, Pass, Refusing}
 use Rattle.algorithm.specs.Checks.Pass.{all, and}
 use Rattle.algorithm.specs.Checks.Refusing.{none, more}
-use Rattle.algorithm.specs.Checks.Laws.{done-passes}
+use Rattle.algorithm.specs.Checks.Laws.{done-passes, refuses}
 use Rattle.report.specs.Layout.{Site, Fields, siteBytes, sitesBytes, bytesOf, liveOf}
 use Rattle.report.specs.Reading.{namesHash, hashIn, tagStart, beforeTag, firstSite, withSite, readSites, sitesIn, mostLive, sitesChecks, readChecks, fieldsOf, readOf, WellFormed}
 
@@ -100,9 +100,6 @@ sites-back (suc n) (size ∷ l) b e =
     ∙ site-back size l (p .0) (p .1) (f .room)
 
 -- no check of a report that fails has the number of a call that is done
-pub refuses : (b : Bool) (n : ℕ) {cs : List Check} → Refusing cs → Refusing (check b (suc n) ∷ cs)
-refuses b n r = more {c = check b (suc n)} (λ f e. omega arith) r
-
 pub sites-refusing : (w : ℕ × List Site) → Refusing (sitesChecks w)
 sites-refusing w = more (eqb-false (w .0) done) (refuses _ _ none)
 
