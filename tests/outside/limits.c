@@ -1,0 +1,127 @@
+/* Calls the library on both sides of the limits near 4,294,967,295 bytes, which no file of cases can hold.
+ *
+ *     limits           the side that is refused, before any byte is read; and reports that are longer than a count can say
+ *     limits --taken   the side that is taken, where each call reads four gigabytes
+ *
+ * The long buffers are one mapping of zeros, of which pages that nothing was written to take no room. */
+#define _DEFAULT_SOURCE
+#include "tirmuzzle.h"
+
+#include <stdio.h>
+#include <stdlib.h>
+#include <string.h>
+#include <sys/mman.h>
+
+#define MOST 4294967295u
+enum { MARGIN = 4096, SHA512_BLOCK = 128, FULL = TIRMUZZLE_SHA512_DIGEST, OUT = 2 * FULL, FILLING = 0xa5 };
+
+static const uint8_t abc[] = {'a', 'b', 'c'}, key[] = {'k', 'e', 'y'};
+static uint8_t *zeros, out[OUT];
+static uint64_t words[TIRMUZZLE_FIELDS];
+static int calls;
+
+static void require(int holds, const char *what)
+{
+    if (!holds) {
+        fprintf(stderr, "limits: %s\n", what);
+        exit(1);
+    }
+}
+
+/* A refused call answers its number, and the output is as it was. */
+static void refuses(const char *what, uint32_t expected, uint32_t answer)
+{
+    if (answer != expected)
+        fprintf(stderr, "limits: answered %lu, expected %lu\n", (unsigned long)answer, (unsigned long)expected);
+    require(answer == expected, what);
+    for (size_t i = 0; i < OUT; i++)
+        require(out[i] == FILLING, what);
+    for (size_t i = 0; i < TIRMUZZLE_FIELDS; i++)
+        require(words[i] == 0, what);
+    calls++;
+}
+
+/* A call that is done answers 0, and the output begins with these bytes, given in hex. */
+static void gives(const char *what, const char *expected, uint32_t answer)
+{
+    require(answer == TIRMUZZLE_DONE, what);
+    for (size_t i = 0; i < FULL; i++) {
+        char digits[3];
+        snprintf(digits, sizeof digits, "%02x", out[i]);
+        require(memcmp(digits, expected + 2 * i, 2) == 0, what);
+    }
+    calls++;
+}
+
+/* One byte too many, alone and beside a later refusal. A tag's message may have a block less than the most. */
+static void refused_lengths(uint32_t hash, size_t digest, size_t block)
+{
+    size_t over = (size_t)MOST + 1, message = over - block;
+    refuses("digest", 4, tirmuzzle_digest(hash, zeros, over, out, digest));
+    refuses("digest, and a wrong size", 4, tirmuzzle_digest(hash, zeros, over, out, 1));
+    refuses("tag, key", 3, tirmuzzle_tag(hash, zeros, over, abc, 3, digest, out, digest));
+    refuses("tag, key and message", 3, tirmuzzle_tag(hash, zeros, over, zeros, over, digest, out, digest));
+    refuses("tag, message", 4, tirmuzzle_tag(hash, key, 3, zeros, message, digest, out, digest));
+    refuses("tag, message and tag length", 4, tirmuzzle_tag(hash, key, 3, zeros, message, 1, out, 1));
+    refuses("verify, key", 3, tirmuzzle_verify(hash, zeros, over, abc, 3, digest, zeros, digest));
+    refuses("verify, message", 4, tirmuzzle_verify(hash, key, 3, zeros, message, digest, zeros, digest));
+    refuses("extract, salt", 3, tirmuzzle_extract(hash, zeros, over, abc, 3, out, digest));
+    refuses("extract, material", 4, tirmuzzle_extract(hash, key, 3, zeros, message, out, digest));
+    refuses("extract, material under no salt", 4, tirmuzzle_extract(hash, NULL, 0, zeros, message, out, digest));
+    refuses("expand, PRK", 3, tirmuzzle_expand(hash, zeros, over, abc, 3, out, digest));
+    refuses("keys, PRK", 3, tirmuzzle_report_keys(hash, zeros, over, 7, 258, out, 2 * digest));
+    refuses("keys, PRK and a wrong size", 3, tirmuzzle_report_keys(hash, zeros, over, 7, 258, out, 1));
+    refuses("no hash, and too long", 2, tirmuzzle_digest(hash + 2, zeros, over, out, digest));
+    refuses("no hash, and too long a key", 2, tirmuzzle_tag(hash + 2, zeros, over, abc, 3, digest, out, digest));
+}
+
+/* The smallest report under a key that is too long; then as the beginning of one that is 4 GiB longer than its count says. */
+static void refused_reports(void)
+{
+    static const uint8_t start[] = {0, 0, 0, TIRMUZZLE_SMALLEST_REPORT - 4, 1, TIRMUZZLE_SHA256};
+    uint8_t report[TIRMUZZLE_SMALLEST_REPORT] = {0};
+    size_t over = (size_t)MOST + 1, longer = over + sizeof report;
+    memcpy(report, start, sizeof start);
+    refuses("check, key", 3, tirmuzzle_report_check(report, sizeof report, zeros, over));
+    refuses("fingerprint, key", 3, tirmuzzle_report_fingerprint(report, sizeof report, zeros, over, out, 32));
+    refuses("fingerprint, key and a wrong size", 3, tirmuzzle_report_fingerprint(report, sizeof report, zeros, over, out, 1));
+    memcpy(zeros, start, sizeof start);
+    refuses("read, longer", 11, tirmuzzle_report_read(zeros, longer, words, TIRMUZZLE_FIELDS));
+    refuses("site, longer", 11, tirmuzzle_report_site(zeros, longer, 0, words, TIRMUZZLE_SITE_NUMBERS));
+    refuses("check, longer", 11, tirmuzzle_report_check(zeros, longer, key, 3));
+    refuses("fingerprint, longer", 11, tirmuzzle_report_fingerprint(zeros, longer, key, 3, out, 32));
+}
+
+/* The most bytes that are taken; the values are those of Python's hashlib and hmac. */
+static void taken_lengths(void)
+{
+    gives("digest of the most bytes",
+          "6626704a24218ba8e3e28bf11fee67fbcf72da8920378d4a6d30d069475fe39b"
+          "0f9609cfb4d5730b72b94b3567c980f322a5f229467a468acc99a84229682266",
+          tirmuzzle_digest(TIRMUZZLE_SHA512, zeros, MOST, out, FULL));
+    gives("tag under the longest key",
+          "335b8d5f9cd73b62b3f8b3045b5096d04ae9d8dc705471551cd84beb123ae351"
+          "43d0643162c7daf467992ee50371a92cd750d1403964ba2748ad314a6b08b135",
+          tirmuzzle_tag(TIRMUZZLE_SHA512, zeros, MOST, abc, 3, FULL, out, FULL));
+    gives("tag of the longest message",
+          "5f69b5dc1ae5dc7d020d1664bf1104126ecc30feb5543c12895533f40224ef7c"
+          "c8d2dade9cef68bf9439c4461a29f00f48cc5c2f0ecdfdc43d4d2e200398aa95",
+          tirmuzzle_tag(TIRMUZZLE_SHA512, key, 3, zeros, MOST - SHA512_BLOCK, FULL, out, FULL));
+}
+
+int main(int count, char **arguments)
+{
+    require(count == 1 || (count == 2 && strcmp(arguments[1], "--taken") == 0), "usage: limits [--taken]");
+    zeros = mmap(NULL, (size_t)MOST + MARGIN, PROT_READ | PROT_WRITE, MAP_PRIVATE | MAP_ANONYMOUS | MAP_NORESERVE, -1, 0);
+    require(zeros != MAP_FAILED, "no room for a mapping of 4 GiB");
+    memset(out, FILLING, OUT);
+    if (count == 1) {
+        refused_lengths(TIRMUZZLE_SHA256, TIRMUZZLE_SHA256_DIGEST, 64);
+        refused_lengths(TIRMUZZLE_SHA512, TIRMUZZLE_SHA512_DIGEST, SHA512_BLOCK);
+        refused_reports();
+    } else {
+        taken_lengths();
+    }
+    printf("%d calls with lengths at 4 GiB\n", calls);
+    return 0;
+}
