@@ -1,7 +1,7 @@
 """What `inspect` writes of a capture and a PRK, by the rules of docs/PROTOCOL.md, and the exit status of ./tirmuzzle for it."""
 import report_rules as rules
 
-SMALLEST, LARGEST = 61, 3981
+SMALLEST, LARGEST = 61, 3981  # of reports
 MOST_PRK_BYTES = 4095
 
 # The exit statuses, by the first words of the last line.
@@ -54,7 +54,7 @@ def ending(capture, at):
     if left < 4:
         return f"cut off: the report at byte {at} is cut off inside its count, after {left} of 4 bytes"
     size = size_at(capture, at)
-    if not SMALLEST <= size <= LARGEST:
+    if size == 4 or size > LARGEST:
         return (
             f"wild length: the count at byte {at} makes a report of {size} bytes, and one has {SMALLEST} to {LARGEST} (11); "
             f"the {left} bytes from there on are not shown"

@@ -98,7 +98,7 @@ def cases():
     yield "cut-before-end", good + good_512[:-1], PRK_64
     yield "one-byte", b"\0", PRK_64
     yield "wild-zeros", good + bytes(8) + good, PRK_64
-    yield "wild-short", good + big(56, 4) + bytes(56) + good, PRK_64
+    yield "too-short", b"".join(big(count, 4) + bytes(count) + good for count in (1, 2, 41, 56)), PRK_64
     yield "wild-long", good + big(3978, 4) + bytes(3978) + good, PRK_64
     yield "wild-longest", big(2**32 - 1, 4) + good, PRK_64
 

@@ -4,9 +4,7 @@ ghost use lib.ListN.{length};
 ghost use Rattle.inspect.specs.Found.{Fits};
 use crate::files;
 
-// The fewest bytes of a report and the most, and those of its count.
-const SMALLEST: u64 = 61;
-
+// The most bytes of a report, and those of its count.
 const LARGEST: usize = 3981;
 
 const COUNT: usize = 4;
@@ -21,7 +19,7 @@ pub enum Found {
     CutCount(usize),
     // A report that has so many bytes by its count, cut off after so many.
     CutReport(usize, usize),
-    // A count that makes a length that no report has.
+    // A count that makes a length that leads nowhere.
     Wild(u64),
     // A read that failed, and errno.
     Failed(i32),
@@ -41,7 +39,7 @@ fn number(space: &[u8]) -> u32
 // The rest of a report that has so many bytes.
 fn rest(fd: i32, space: &mut [u8], size: usize) -> Found
     requires { ⌜ 3981 ≤ length (now space) ⌝ }
-    requires { ⌜ (61 ≤ size) × (size ≤ 3981) ⌝ }
+    requires { ⌜ (5 ≤ size) × (size ≤ 3981) ⌝ }
     ensures { λ r. ⌜ Fits r ⌝ }
 {
     let mut failed = false;
@@ -55,7 +53,8 @@ fn rest(fd: i32, space: &mut [u8], size: usize) -> Found
     Found::Report(size)
 }
 
-// The next report. A length that no report has ends the search for more: nothing tells where the next one would start.
+// The next report, also one that is too short to be read. A count of nothing, or of more than a report has, ends the search for more:
+// nothing tells where the next one would start.
 pub(crate) fn next(fd: i32, space: &mut [u8]) -> Found
     requires { ⌜ 3981 ≤ length (now space) ⌝ }
     ensures { λ r. ⌜ Fits r ⌝ }
@@ -72,7 +71,7 @@ pub(crate) fn next(fd: i32, space: &mut [u8]) -> Found
         return Found::CutCount(came);
     }
     let size = number(space) as u64 + 4;
-    if size < SMALLEST || (LARGEST as u64) < size {
+    if size == COUNT as u64 || (LARGEST as u64) < size {
         return Found::Wild(size);
     }
     rest(fd, space, size as usize)
