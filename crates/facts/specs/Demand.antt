@@ -11,26 +11,24 @@ use lib.Seq.{length-take-le}
 use Rattle.octets.specs.Number.Laws.{number-front}
 use Rattle.octets.specs.Number.{numberAt}
 use Rattle.algorithm.specs.declared.hashes.Hash.{Hash}
-use Rattle.algorithm.specs.Hashes.{blockOf, shortestOf}
-use Rattle.algorithm.specs.Refusals.{done}
-use Rattle.algorithm.specs.Checks.{firstFailing}
+use Rattle.algorithm.specs.Hashes.{blockOf}
+use Rattle.algorithm.specs.Refusals.{mostBytes}
 use Rattle.hash.specs.Digest.{fromBlocks, digestOf}
 use Rattle.hmac.specs.Form.{formOf, outerPad, SameButZeros}
 use Rattle.hmac.specs.Form.Laws.{forms-same, form-of-digest}
 use Rattle.hmac.specs.Hmac.{hmacOf, innerBlocksOf}
 use Rattle.hmac.specs.Hmac.Laws.{hmac-from-blocks, inner-blocks-same, same-form-same-tag}
-use Rattle.report.specs.Layout.{AgreeButSendTime}
-use Rattle.report.specs.Reading.{hashNamed, hashIn, tagStart, beforeTag, readOf, WellFormed}
+use Rattle.report.specs.Layout.{tagSize, AgreeButSendTime}
+use Rattle.report.specs.Reading.{hashIn, tagSizeIn, tagStart, beforeTag, readOf, WellFormed}
 use Rattle.report.specs.Reading.Laws.{tag-low, tag-high}
 use Rattle.report.specs.Fingerprint.{messageOf, fingerprintOf}
 use Rattle.report.specs.Fingerprint.Laws.{messages-same}
-use Rattle.report.specs.Calls.{keyChecks}
 
--- Two keys that pass their check, and two well-formed reports that name one hash: their fingerprints' inner hashes are fed the same
+-- Two keys that are not refused with 3, and two well-formed reports that name one hash: their fingerprints' inner hashes are fed the same
 -- padded blocks exactly where the keys share a form and the reports differ at most in the send time.
 pub demand-3 : (h : Hash) (key key′ s t : List ℕ)
-    → firstFailing (keyChecks key) ≡ done
-    → firstFailing (keyChecks key′) ≡ done
+    → length key ≤ mostBytes
+    → length key′ ≤ mostBytes
     → WellFormed s
     → WellFormed t
     → hashIn s ≡ h
@@ -67,8 +65,8 @@ module _ (s t : List ℕ) (w : WellFormed s) (e : beforeTag s ≡ beforeTag t) w
 
   length-same : length s ≡ length t
   length-same =
-      let tags : shortestOf (hashIn s) ≡ shortestOf (hashIn t) =
-      ap (λ (n : ℕ). shortestOf (hashNamed n)) (number-same 5 1 (lit≤ tt))
+      let tags : tagSizeIn s ≡ tagSizeIn t =
+      ap tagSize (number-same 5 1 (lit≤ tt))
       in
       omega (arith, tags, start-same, tag-low s w)
 

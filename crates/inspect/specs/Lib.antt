@@ -1,4 +1,3 @@
 pub mod Found
 pub mod Judging
-pub mod Sum
 pub mod Tally

@@ -1,12 +1,12 @@
 // The capture, a report at a time, in a space that holds the largest.
 ghost use Prim.Native.Nat.{_≤_};
 ghost use lib.ListN.{length};
+ghost use Rattle.report.specs.Layout.{largestReport};
 ghost use Rattle.inspect.specs.Found.{Fits};
 use crate::files;
+use report::LARGEST_REPORT;
 
-// The most bytes of a report, and those of its count.
-const LARGEST: usize = 3981;
-
+// The bytes of a report's count.
 const COUNT: usize = 4;
 
 // What stands next in a capture.
@@ -38,8 +38,8 @@ fn number(space: &[u8]) -> u32
 
 // The rest of a report that has so many bytes.
 fn rest(fd: i32, space: &mut [u8], size: usize) -> Found
-    requires { ⌜ 3981 ≤ length (now space) ⌝ }
-    requires { ⌜ (5 ≤ size) × (size ≤ 3981) ⌝ }
+    requires { ⌜ largestReport ≤ length (now space) ⌝ }
+    requires { ⌜ (5 ≤ size) × (size ≤ largestReport) ⌝ }
     ensures { λ r. ⌜ Fits r ⌝ }
 {
     let mut failed = false;
@@ -56,7 +56,7 @@ fn rest(fd: i32, space: &mut [u8], size: usize) -> Found
 // The next report, also one that is too short to be read. A count of nothing, or of more than a report has, ends the search for more:
 // nothing tells where the next one would start.
 pub(crate) fn next(fd: i32, space: &mut [u8]) -> Found
-    requires { ⌜ 3981 ≤ length (now space) ⌝ }
+    requires { ⌜ largestReport ≤ length (now space) ⌝ }
     ensures { λ r. ⌜ Fits r ⌝ }
 {
     let mut failed = false;
@@ -71,7 +71,7 @@ pub(crate) fn next(fd: i32, space: &mut [u8]) -> Found
         return Found::CutCount(came);
     }
     let size = number(space) as u64 + 4;
-    if size == COUNT as u64 || (LARGEST as u64) < size {
+    if size == COUNT as u64 || (LARGEST_REPORT as u64) < size {
         return Found::Wild(size);
     }
     rest(fd, space, size as usize)

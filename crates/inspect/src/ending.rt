@@ -2,6 +2,8 @@
 use crate::capture::Found;
 use crate::files;
 use crate::say;
+use report::LARGEST_REPORT;
+use report::SMALLEST_REPORT;
 
 fn say_end(at: u64) {
     if at == 0 {
@@ -47,11 +49,9 @@ fn say_left(fd: i32, at: u64) {
 
 fn say_wild(fd: i32, at: u64, size: u64) {
     say::sentence(b"wild length: the count at byte ", at, b"");
-    say::sentence(
-        b" makes a report of ",
-        size,
-        b" bytes, and one has 61 to 3981 (11)",
-    );
+    say::sentence(b" makes a report of ", size, b" bytes, and one has ");
+    say::sentence(b"", SMALLEST_REPORT as u64, b" to ");
+    say::sentence(b"", LARGEST_REPORT as u64, b" (11)");
     say_left(fd, at);
 }
 

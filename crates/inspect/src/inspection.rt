@@ -2,6 +2,7 @@
 ghost use mathlib.Core.Path.{_≡_};
 ghost use Prim.Native.Nat.{_+_, _<_, _≤_};
 ghost use lib.ListN.{length};
+ghost use Rattle.report.specs.Layout.{largestReport};
 ghost use Rattle.report.specs.Reading.{readOf};
 ghost use Rattle.report.specs.Calls.{readingOf};
 ghost use Rattle.inspect.specs.Judging.{lineOf};
@@ -19,7 +20,7 @@ use crate::tally::Tally;
 fn inspect_one(report: &[u8], prk: &[u8], before: Tally) -> Tally
     requires { ⌜ Adds before ⌝ }
     requires { ⌜ before .reports < 4503599627370496 ⌝ }
-    requires { ⌜ length (now report) ≤ 3981 ⌝ }
+    requires { ⌜ length (now report) ≤ largestReport ⌝ }
     ensures { λ r. ⌜ Adds r ⌝ }
     ensures { λ r. ⌜ r .reports ≡ before .reports + 1 ⌝ }
     ensures { λ r. ⌜ r .live ≡ liveWith before (lineOf (now (report .entry)) (readingOf (readOf (now (report .entry)))) (now (prk .entry))) (readingOf (readOf (now (report .entry))) .live) ⌝ }

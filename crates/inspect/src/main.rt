@@ -9,7 +9,6 @@ mod meanings;
 mod prk;
 mod row;
 mod say;
-mod sum;
 mod tally;
 
 // The arguments, the program's own name among them.

@@ -1,10 +1,10 @@
 // The totals: how many reports there are, what the verdicts were, and the live bytes of those whose tag matches.
 ghost use mathlib.Core.Path.{_≡_};
 ghost use Prim.Native.Nat.{_+_, _<_, _≤_};
+ghost use Rattle.report.specs.Layout.{largestReport};
 ghost use Rattle.inspect.specs.Tally.{Adds, liveWith};
 use crate::say;
-use crate::sum;
-use crate::sum::Sum;
+use octets::Sum;
 
 // More reports than any capture has; it keeps every count below 2^64.
 pub(crate) const MOST_REPORTS: u64 = 4503599627370496;
@@ -31,7 +31,7 @@ pub(crate) fn none() -> Tally
         refused: 0,
         live: Sum {
             over: false,
-            bytes: 0,
+            total: 0,
         },
     }
 }
@@ -40,7 +40,7 @@ pub(crate) fn none() -> Tally
 pub(crate) fn counted(tally: Tally, number: u32, live: u64, size: usize) -> Tally
     requires { ⌜ Adds tally ⌝ }
     requires { ⌜ tally .reports < 4503599627370496 ⌝ }
-    requires { ⌜ size ≤ 3981 ⌝ }
+    requires { ⌜ size ≤ largestReport ⌝ }
     ensures { λ r. ⌜ Adds r ⌝ }
     ensures { λ r. ⌜ r .reports ≡ tally .reports + 1 ⌝ }
     ensures { λ r. ⌜ r .live ≡ liveWith tally number live ⌝ }
@@ -50,7 +50,7 @@ pub(crate) fn counted(tally: Tally, number: u32, live: u64, size: usize) -> Tall
     next.reports += 1;
     if number == algorithm::DONE {
         let before = tally.live;
-        let sum = sum::plus(before, live);
+        let sum = octets::plus(before, live);
         next.live = sum;
         next.matching += 1;
         return next;
@@ -68,7 +68,7 @@ fn say_live(live: Sum) {
     if live.over {
         say::text(b"over 18446744073709551615 (2^64 - 1)\n");
     } else {
-        say::number(live.bytes);
+        say::number(live.total);
         say::text(b"\n");
     }
 }

@@ -4,3 +4,4 @@ pub mod Number
 pub mod Every
 pub mod Same
 pub mod Parts
+pub mod Sums

@@ -6,12 +6,12 @@ use Prim.Native.Nat.{ℕ, _-_, _≤_}
 use native.Mathlib.Omega.{arith}
 use lib.ListN.{length}
 use Rattle.octets.specs.Number.{numberAt}
-use Rattle.algorithm.specs.Hashes.{names, hashOf, shortestOf}
+use Rattle.algorithm.specs.Hashes.{names, hashOf}
 use Rattle.algorithm.specs.Refusals.{done}
 use Rattle.algorithm.specs.Checks.{firstFailing}
 use Rattle.algorithm.specs.Checks.Laws.{done-work}
 use Rattle.report.specs.Layout.{liveOf}
-use Rattle.report.specs.Reading.{hashIn, tagStart, sitesIn, readChecks}
+use Rattle.report.specs.Reading.{hashIn, tagSizeIn, tagStart, sitesIn, readChecks}
 use Rattle.report.specs.Reading.Laws.{Passed, passed}
 use Rattle.report.specs.Calls.Laws.{report-hash}
 use Rattle.report.specs.Inside.{checkedOf}
@@ -57,5 +57,5 @@ module _ (s : List ℕ) {r : Checked} (p : Read s r) where
   pub end-high : r .end ≤ length s
   end-high = omega (arith, p .end)
 
-  pub tag-size : length s - tagStart s ≡ shortestOf (hashIn s)
+  pub tag-size : length s - tagStart s ≡ tagSizeIn s
   tag-size = omega (arith, p .passes .tag-fits)

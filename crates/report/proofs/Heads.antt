@@ -9,14 +9,13 @@ use borrow.Author.Tests.{leb-true, le-leb, lt-leb, ne-eqb}
 use Rattle.octets.specs.Number.{numberAt}
 use Rattle.algorithm.specs.declared.hashes.Hash.{Hash}
 use Rattle.algorithm.specs.declared.hashes.Named.the-variants.{Is, Unknown}
-use Rattle.algorithm.specs.Hashes.{shortestOf}
 use Rattle.algorithm.specs.Refusals.{done, unknownHash, wrongReportLength, tooManySites}
 use Rattle.algorithm.specs.Checks.{firstFailing, Pass, Refusing}
 use Rattle.algorithm.specs.Checks.Pass.{and}
 use Rattle.algorithm.specs.Checks.Refusing.{none}
 use Rattle.algorithm.specs.Checks.Laws.{done-passes, append-refuses, append-passes, refuses}
-use Rattle.report.specs.Layout.{Site, liveOf}
-use Rattle.report.specs.Reading.{namesHash, namedIn, hashIn, tagStart, readSites, sitesIn, startChecks, hashChecks, sitesChecks, readChecks}
+use Rattle.report.specs.Layout.{Site, smallestReport, liveOf}
+use Rattle.report.specs.Reading.{namesHash, namedIn, tagSizeIn, tagStart, readSites, sitesIn, startChecks, hashChecks, sitesChecks, readChecks}
 use Rattle.report.specs.Calls.Laws.{named-unknown, named-is}
 use Rattle.report.specs.Inside.{headChecks, stoppedHead, headOf, stopped, checkedOf, Walked}
 use Rattle.report.specs.declared.checks.Head.{Head}
@@ -28,8 +27,8 @@ module _ (s : List ℕ) where
     pub hash-unknown : namedIn n ≡ Unknown → namesHash (numberAt s 5 1) ≡ false
     hash-unknown u = named-unknown (numberAt s 5 1) (ap namedIn (sym e) ∙ u)
 
-    pub hash-known : (h : Hash) → namedIn n ≡ Is h → (namesHash (numberAt s 5 1) ≡ true) × (hashIn s ≡ h)
-    hash-known h u = named-is (numberAt s 5 1) h (ap namedIn (sym e) ∙ u)
+    pub hash-known : (h : Hash) → namedIn n ≡ Is h → namesHash (numberAt s 5 1) ≡ true
+    hash-known h u = named-is (numberAt s 5 1) h (ap namedIn (sym e) ∙ u) .0
 
   start-refusing : Refusing (startChecks s)
   start-refusing = refuses _ _ (refuses _ _ (refuses _ _ none))
@@ -42,10 +41,10 @@ module _ (s : List ℕ) where
   start-refuses n e z = refused n (append-refuses (startChecks s) (hashChecks s) (λ d. z (e ∙ d)) ∙ sym e) z
 
   module _ (e : firstFailing (startChecks s) ≡ done) where
-    long : Pass (startChecks s) → 61 ≤ length s
-    long (and p q) = leb-true 61 (length s) p
+    long : Pass (startChecks s) → smallestReport ≤ length s
+    long (and p q) = leb-true smallestReport (length s) p
 
-    pub start-long : 61 ≤ length s
+    pub start-long : smallestReport ≤ length s
     start-long = long (done-passes (startChecks s) start-refusing e)
 
     rest : firstFailing (headChecks s) ≡ firstFailing (hashChecks s)
@@ -57,18 +56,18 @@ module _ (s : List ℕ) where
 
     module _ (k : namesHash (numberAt s 5 1) ≡ true) where
       -- the report is too short for its hash
-      pub head-short : length s < 45 + shortestOf (hashIn s) → stoppedHead wrongReportLength ≡ headOf s
-      head-short l = refused wrongReportLength (rest ∙ rw (k, lt-leb (45 + shortestOf (hashIn s)) (length s) l)) (λ z. omega arith)
+      pub head-short : length s < 45 + tagSizeIn s → stoppedHead wrongReportLength ≡ headOf s
+      head-short l = refused wrongReportLength (rest ∙ rw (k, lt-leb (45 + tagSizeIn s) (length s) l)) (λ z. omega arith)
 
-      module _ (l : 45 + shortestOf (hashIn s) ≤ length s) where
+      module _ (l : 45 + tagSizeIn s ≤ length s) where
         -- it has too many sites
         pub head-sites : 64 < numberAt s 43 2 → stoppedHead tooManySites ≡ headOf s
-        head-sites m = refused tooManySites (rest ∙ rw (k, le-leb (45 + shortestOf (hashIn s)) (length s) l, lt-leb (numberAt s 43 2) 64 m)) (λ z. omega arith)
+        head-sites m = refused tooManySites (rest ∙ rw (k, le-leb (45 + tagSizeIn s) (length s) l, lt-leb (numberAt s 43 2) 64 m)) (λ z. omega arith)
 
         -- it passes
-        pub head-passes : numberAt s 43 2 ≤ 64 → record { number = done; end = length s - shortestOf (hashIn s) } ≡ headOf s
+        pub head-passes : numberAt s 43 2 ≤ 64 → record { number = done; end = length s - tagSizeIn s } ≡ headOf s
         head-passes m =
-            let d : firstFailing (headChecks s) ≡ done = rest ∙ rw (k, le-leb (45 + shortestOf (hashIn s)) (length s) l, le-leb (numberAt s 43 2) 64 m) in
+            let d : firstFailing (headChecks s) ≡ done = rest ∙ rw (k, le-leb (45 + tagSizeIn s) (length s) l, le-leb (numberAt s 43 2) 64 m) in
             rw d
 
 -- what the answer says of a report that these checks let pass
@@ -85,8 +84,8 @@ module _ (s : List ℕ) {r : Head} (e : r ≡ headOf s) where
   head-refusing : Refusing (headChecks s)
   head-refusing = refuses _ _ (refuses _ _ (refuses _ _ (refuses _ _ (refuses _ _ (refuses _ _ none)))))
 
-  fits : Pass (headChecks s) → 45 + shortestOf (hashIn s) ≤ length s
-  fits (and a (and b (and c (and d (and tag f))))) = leb-true (45 + shortestOf (hashIn s)) (length s) tag
+  fits : Pass (headChecks s) → 45 + tagSizeIn s ≤ length s
+  fits (and a (and b (and c (and d (and tag f))))) = leb-true (45 + tagSizeIn s) (length s) tag
 
   pub head-passed : r .number ≡ done → HeadPassed s r
   head-passed z =

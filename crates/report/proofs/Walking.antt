@@ -1,6 +1,6 @@
 -- The walk over the sites, one site at a time: what the definition reads from a place of a report's body. Assumes nothing.
 use mathlib.Core.Path.{_≡_, refl, sym, ap, _∙_}
-use mathlib.Core.Bool.{Bool, true, false, cond, _&&_, _||_}
+use mathlib.Core.Bool.{Bool, true, false, cond, _&&_}
 use mathlib.Core.List.{List, []}
 use Prim.Native.Nat.{ℕ, suc, _+_, _-_, _≤_, _<_}
 use native.Mathlib.Decide.{decLt}
@@ -10,15 +10,17 @@ use native.Mathlib.Omega.{arith}
 use lib.Dec.{leb, ltb}
 use lib.ListN.{length, take, drop, getD, length-drop, drop-of-length-le}
 use lib.Seq.{drop-cons, drop-drop}
-use borrow.Author.Tests.{le-leb, lt-leb, lt-ltb, le-ltb, ltb-true, ne-eqb}
+use borrow.Author.Tests.{le-leb, lt-leb, lt-ltb, le-ltb, ne-eqb}
 use Rattle.octets.specs.Number.{number}
+use Rattle.octets.specs.Sums.{largestTotal, noSum, plusOf, SumBy, SumIs}
+use Rattle.octets.specs.Sums.Laws.{plus-is}
+use Rattle.octets.specs.declared.sums.Sum.{Sum}
 use Rattle.algorithm.specs.Refusals.{done, labelLengthOutOfRange, sitesMisplaced, sumTooLarge}
 use Rattle.algorithm.specs.Checks.{firstFailing}
 use Rattle.report.specs.Layout.{Site, liveOf}
-use Rattle.report.specs.Reading.{withSite, readSites, mostLive, sitesChecks}
-use Rattle.report.specs.Inside.{siteHere, Fits, Stepped, plusOf, SumBy, SumIs, endOf, Walked}
+use Rattle.report.specs.Reading.{withSite, readSites, sitesChecks}
+use Rattle.report.specs.Inside.{siteHere, Fits, Stepped, endOf, Walked}
 use Rattle.report.specs.declared.walk.Step.{Step}
-use Rattle.report.specs.declared.walk.Sum.{Sum}
 use Rattle.report.specs.declared.walk.Counted.{Counted}
 
 -- a step that is refused
@@ -100,34 +102,24 @@ none-more b at = elim (decLt at (length b)) [
       ap (readSites 0) (drop-of-length-le b {i = at} k) ∙ rw (le-ltb at (length b) k)
 ]
 
--- one summand more
-pub plus-is : (a : Sum) (x t : ℕ) → SumIs a t → SumIs (plusOf a x) (t + x)
-plus-is a x t = by-case (a .over) (ltb (mostLive - a .live) x) refl
-  where
-    by-case : (o b : Bool) → ltb (mostLive - a .live) x ≡ b → SumBy o (a .live) t
-        → SumIs (cond (o || b) (record { over = true; live = 0 }) (record { over = false; live = a .live + x })) (t + x)
-    by-case true b e h = omega arith
-    by-case false true e h = omega (arith, ltb-true (mostLive - a .live) x e)
-    by-case false false e h = omega arith
-
 -- the end of the walk answers by what it found: bytes left, a sum that passed, or the sum
 walk-end : (w : ℕ × List Site) (left : Bool) (sum : Sum) (t : ℕ) → w .0 ≡ cond left sitesMisplaced done → liveOf (w .1) ≡ t → SumIs sum t
-    → (r : Counted) → r .live ≤ mostLive → r ≡ endOf left sum → (r .number ≡ firstFailing (sitesChecks w)) × (r .number ≡ done → r .live ≡ liveOf (w .1))
+    → (r : Counted) → r .live ≤ largestTotal → r ≡ endOf left sum → (r .number ≡ firstFailing (sitesChecks w)) × (r .number ≡ done → r .live ≡ liveOf (w .1))
 walk-end w left sum t en el es r fits e = by-case left (sum .over) en es e
   where
-    by-case : (l o : Bool) → w .0 ≡ cond l sitesMisplaced done → SumBy o (sum .live) t
-        → r ≡ cond l (record { number = sitesMisplaced; live = 0 }) (cond o (record { number = sumTooLarge; live = 0 }) (record { number = done; live = sum .live }))
+    by-case : (l o : Bool) → w .0 ≡ cond l sitesMisplaced done → SumBy o (sum .total) t
+        → r ≡ cond l (record { number = sitesMisplaced; live = 0 }) (cond o (record { number = sumTooLarge; live = 0 }) (record { number = done; live = sum .total }))
         → (r .number ≡ firstFailing (sitesChecks w)) × (r .number ≡ done → r .live ≡ liveOf (w .1))
     by-case true o n s q =
         let k : r .number ≡ sitesMisplaced = ap (λ (x : Counted). x .number) q in
         (k ∙ rw n, λ d. absurd (omega arith))
     by-case false true n s q =
         let k : r .number ≡ sumTooLarge = ap (λ (x : Counted). x .number) q in
-        (k ∙ rw (n, lt-leb (liveOf (w .1)) mostLive (omega arith)), λ d. absurd (omega arith))
+        (k ∙ rw (n, lt-leb (liveOf (w .1)) largestTotal (omega arith)), λ d. absurd (omega arith))
     by-case false false n s q =
         let k : r .number ≡ done = ap (λ (x : Counted). x .number) q in
         let live : r .live ≡ liveOf (w .1) = ap (λ (x : Counted). x .live) q ∙ s ∙ sym el in
-        (k ∙ rw (n, le-leb (liveOf (w .1)) mostLive (omega arith)), λ d. live)
+        (k ∙ rw (n, le-leb (liveOf (w .1)) largestTotal (omega arith)), λ d. live)
 
 -- how far the walk is: the sites passed have t live bytes, and the rest are read from here on
 pub record Far (b : List ℕ) (sites at : ℕ) (sum : Sum) (i : ℕ) : Type 0 where
@@ -138,7 +130,7 @@ pub record Far (b : List ℕ) (sites at : ℕ) (sum : Sum) (i : ℕ) : Type 0 wh
   pub live : liveOf (readSites sites (drop 45 b) .1) ≡ t + liveOf (readSites (sites - i) (drop at b) .1)
   pub sums : SumIs sum t
 
-pub far-start : (b : List ℕ) (sites : ℕ) → 45 ≤ length b → Far b sites 45 (record { over = false; live = 0 }) 0
+pub far-start : (b : List ℕ) (sites : ℕ) → 45 ≤ length b → Far b sites 45 noSum 0
 far-start b sites h =
     let e : sites - 0 ≡ sites = omega arith in
     record {
@@ -197,7 +189,7 @@ module _ (b : List ℕ) (sites at : ℕ) (sum : Sum) (i : ℕ) (f : Far b sites 
         ∙ ap (λ (x : ℕ × List Site). f .t + liveOf (x .1)) (none-more b at)
         ∙ add-zero (f .t)
 
-    pub far-end : (r : Counted) → r .live ≤ mostLive → r ≡ endOf (ltb at (length b)) sum → Walked b sites r
+    pub far-end : (r : Counted) → r .live ≤ largestTotal → r ≡ endOf (ltb at (length b)) sum → Walked b sites r
     far-end r fits e =
         let k = walk-end (readSites sites (drop 45 b)) (ltb at (length b)) sum (f .t) end-number end-live (f .sums) r fits e in
         record { number = k .0; live = k .1 }

@@ -8,12 +8,12 @@ use Prim.Native.Nat.{ℕ, zero, suc, _+_, _*_, _≤_}
 use lib.Dec.{leb, ltb, eqb}
 use lib.ListN.{length, take, drop, getD}
 use Rattle.octets.specs.Same.{equal}
-use Rattle.algorithm.specs.Hashes.{sizeOf, shortestOf}
+use Rattle.algorithm.specs.Hashes.{sizeOf}
 use Rattle.algorithm.specs.Refusals.{done, tagDiffers, unknownHash, keyTooLong, wrongSize, prkTooShort, noSuchSite, mostBytes}
 use Rattle.algorithm.specs.Checks.{Check, check, firstFailing, decided, answered}
 use Rattle.hmac.specs.Hmac.{tagOf}
 use Rattle.report.specs.Layout.{Site, Fields, liveOf}
-use Rattle.report.specs.Reading.{namesHash, hashNamed, hashIn, tagStart, beforeTag, sitesIn, readChecks, fieldsOf, readOf}
+use Rattle.report.specs.Reading.{namesHash, hashNamed, hashIn, tagSizeIn, tagStart, beforeTag, sitesIn, readChecks, fieldsOf, readOf}
 use Rattle.report.specs.Fingerprint.{fingerprintOf}
 use Rattle.report.specs.Keys.{keysOf}
 use Rattle.report.specs.declared.reading.Reading.{Reading}
@@ -138,7 +138,7 @@ abbrev pub tagChecks : List ℕ → List ℕ → List Check
 tagChecks s key =
     readChecks s
     ++ (keyChecks key
-    ++ (check (equal (drop (tagStart s) s) (tagOf (hashIn s) key (shortestOf (hashIn s)) (beforeTag s))) tagDiffers ∷ []))
+    ++ (check (equal (drop (tagStart s) s) (tagOf (hashIn s) key (tagSizeIn s) (beforeTag s))) tagDiffers ∷ []))
 
 pub checkAnswer : List ℕ → List ℕ → ℕ
 checkAnswer s key = firstFailing (tagChecks s key)

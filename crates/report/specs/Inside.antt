@@ -1,19 +1,18 @@
 -- What the private functions ask and promise. Assumes nothing.
 use mathlib.Core.Path.{_≡_}
-use mathlib.Core.Bool.{Bool, true, false, cond, _||_}
-use mathlib.Core.List.{List, [], _∷_, _++_}
+use mathlib.Core.Bool.{Bool, true, cond}
+use mathlib.Core.List.{List, _++_}
 use Prim.Native.Nat.{ℕ, suc, _+_, _-_, _*_, _^_, _≤_, _<_}
-use lib.Dec.{ltb}
 use lib.ListN.{length, take, drop, getD}
 use Rattle.octets.specs.Number.{numberAt}
+use Rattle.octets.specs.declared.sums.Sum.{Sum}
 use Rattle.algorithm.specs.Hashes.{names, hashOf, blockOf, sizeOf}
 use Rattle.algorithm.specs.Refusals.{done, sitesMisplaced, sumTooLarge, mostBytes}
 use Rattle.algorithm.specs.Checks.{Check, firstFailing, decided}
 use Rattle.report.specs.Layout.{Site, liveOf}
-use Rattle.report.specs.Reading.{tagStart, withSite, readSites, sitesIn, mostLive, startChecks, hashChecks, sitesChecks, readChecks, fieldsOf, noFields}
+use Rattle.report.specs.Reading.{namesHash, tagStart, withSite, readSites, sitesIn, startChecks, hashChecks, sitesChecks, readChecks, fieldsOf, noFields}
 use Rattle.report.specs.Calls.{readingOf, siteOf, before}
 use Rattle.report.specs.declared.walk.Step.{Step}
-use Rattle.report.specs.declared.walk.Sum.{Sum}
 use Rattle.report.specs.declared.walk.Counted.{Counted}
 use Rattle.report.specs.declared.checks.Head.{Head}
 use Rattle.report.specs.declared.checks.Checked.{Checked}
@@ -44,22 +43,11 @@ pub record Stepped (body : List ℕ) (at : ℕ) (r : Step) : Type 0 where
   pub next : r .number ≡ done → r .next ≡ at + getD body at 0 + 13
   pub live : r .number ≡ done → r .live ≡ numberAt body (at + getD body at 0 + 1) 8
 
--- a sum in 64 bits, one summand more, and what such a sum says of a number
-abbrev pub plusOf : Sum → ℕ → Sum
-plusOf a x = cond (a .over || ltb (mostLive - a .live) x) (record { over = true; live = 0 }) (record { over = false; live = a .live + x })
-
-abbrev pub SumBy : Bool → ℕ → ℕ → Type 0
-SumBy true n t = mostLive < t
-SumBy false n t = n ≡ t
-
-abbrev pub SumIs : Sum → ℕ → Type 0
-SumIs a t = SumBy (a .over) (a .live) t
-
 -- the end of the walk
 abbrev pub endOf : Bool → Sum → Counted
 endOf left a =
     cond left (record { number = sitesMisplaced; live = 0 })
-    (cond (a .over) (record { number = sumTooLarge; live = 0 }) (record { number = done; live = a .live }))
+    (cond (a .over) (record { number = sumTooLarge; live = 0 }) (record { number = done; live = a .total }))
 
 -- the whole walk
 pub record Walked (body : List ℕ) (sites : ℕ) (r : Counted) : Type 0 where
@@ -125,7 +113,7 @@ pub record StartIs (body : List ℕ) (place at : ℕ) : Type 0 where
 
 -- a key and two pieces that HMAC takes, and an output for a fingerprint
 pub record TwoPieces (n : ℕ) (key first second out : List ℕ) : Type 0 where
-  pub known : names n ≡ true
+  pub known : namesHash n ≡ true
   pub key-fits : length key ≤ mostBytes
   pub fits : length first + length second ≤ mostBytes - blockOf (hashOf n)
   pub size : length out ≡ 32

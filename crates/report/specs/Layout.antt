@@ -1,7 +1,9 @@
--- The layout of a report (docs/PROTOCOL.md, "Reports"): its fields, and the bytes that they take before the tag. Assumes nothing.
+-- The layout of a report (docs/PROTOCOL.md, "Reports"): its fields, the bytes that they take before the tag, and sizes. Assumes nothing.
 use mathlib.Core.Path.{_≡_}
+use mathlib.Core.Bool.{cond}
 use mathlib.Core.List.{List, [], _∷_, _++_}
 use Prim.Native.Nat.{ℕ, _+_}
+use lib.Dec.{eqb}
 use lib.ListN.{length}
 use Rattle.octets.specs.Number.{bytes}
 
@@ -45,6 +47,17 @@ bytesOf f =
     ++ (bytes 8 (f .memory)
     ++ (bytes 2 (length (f .sites))
     ++ sitesBytes (f .sites))))))))))
+
+-- the bytes of a tag, by the number of the report's hash
+abbrev pub tagSize : ℕ → ℕ
+tagSize n = cond (eqb n 2) 32 16
+
+-- the fewest and the most bytes of a report
+abbrev pub smallestReport : ℕ
+smallestReport = 61
+
+abbrev pub largestReport : ℕ
+largestReport = 3981
 
 -- the sum of live bytes
 unfoldable pub liveOf : List Site → ℕ

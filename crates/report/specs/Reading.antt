@@ -9,14 +9,14 @@ use lib.Dec.{leb, eqb}
 use lib.ListN.{length, take, drop}
 use Rattle.octets.specs.Number.{numberAt}
 use Rattle.octets.specs.Every.{allBytes}
+use Rattle.octets.specs.Sums.{largestTotal}
 use Rattle.algorithm.specs.declared.hashes.Hash.{Hash}
 use Rattle.algorithm.specs.declared.hashes.Hash.the-variants.{Sha256, Sha512}
 use Rattle.algorithm.specs.declared.hashes.Named.{Named}
 use Rattle.algorithm.specs.declared.hashes.Named.the-variants.{Is, Unknown}
-use Rattle.algorithm.specs.Hashes.{shortestOf}
 use Rattle.algorithm.specs.Refusals.{done, unknownHash, wrongReportLength, unknownVersion, tooManySites, labelLengthOutOfRange, sitesMisplaced, sumTooLarge}
 use Rattle.algorithm.specs.Checks.{Check, check, firstFailing, decided}
-use Rattle.report.specs.Layout.{Site, Fields, liveOf}
+use Rattle.report.specs.Layout.{Site, Fields, tagSize, smallestReport, liveOf}
 
 -- the hash that a report names by a number: its own list, whatever other calls make
 abbrev pub namesHash : ℕ → Bool
@@ -28,12 +28,15 @@ hashNamed n = cond (eqb n 2) Sha512 Sha256
 abbrev pub namedIn : ℕ → Named
 namedIn n = cond (namesHash n) (Is (hashNamed n)) Unknown
 
--- the hash of a report, where its tag starts (16 or 32 bytes before its end, half a digest), and all bytes before the tag
+-- the hash of a report, the bytes of its tag, where the tag starts, and all bytes before it
 abbrev pub hashIn : List ℕ → Hash
 hashIn s = hashNamed (numberAt s 5 1)
 
+abbrev pub tagSizeIn : List ℕ → ℕ
+tagSizeIn s = tagSize (numberAt s 5 1)
+
 abbrev pub tagStart : List ℕ → ℕ
-tagStart s = length s - shortestOf (hashIn s)
+tagStart s = length s - tagSizeIn s
 
 abbrev pub beforeTag : List ℕ → List ℕ
 beforeTag s = take (tagStart s) s
@@ -61,14 +64,10 @@ readSites (suc n) (size ∷ l) =
 abbrev pub sitesIn : List ℕ → ℕ × List Site
 sitesIn s = readSites (numberAt s 43 2) (drop 45 (beforeTag s))
 
--- the most live bytes in all
-abbrev pub mostLive : ℕ
-mostLive = 18446744073709551615
-
 -- the checks of length, count and version, those of the hash and of the number of sites, those of the sites, and all
 abbrev pub startChecks : List ℕ → List Check
 startChecks s =
-    check (leb 61 (length s)) wrongReportLength
+    check (leb smallestReport (length s)) wrongReportLength
     ∷ check (eqb (numberAt s 0 4) (length s - 4)) wrongReportLength
     ∷ check (eqb (numberAt s 4 1) 1) unknownVersion
     ∷ []
@@ -76,12 +75,12 @@ startChecks s =
 abbrev pub hashChecks : List ℕ → List Check
 hashChecks s =
     check (namesHash (numberAt s 5 1)) unknownHash
-    ∷ check (leb (45 + shortestOf (hashIn s)) (length s)) wrongReportLength
+    ∷ check (leb (45 + tagSizeIn s) (length s)) wrongReportLength
     ∷ check (leb (numberAt s 43 2) 64) tooManySites
     ∷ []
 
 abbrev pub sitesChecks : ℕ × List Site → List Check
-sitesChecks w = check (eqb (w .0) done) (w .0) ∷ check (leb (liveOf (w .1)) mostLive) sumTooLarge ∷ []
+sitesChecks w = check (eqb (w .0) done) (w .0) ∷ check (leb (liveOf (w .1)) largestTotal) sumTooLarge ∷ []
 
 abbrev pub readChecks : List ℕ → List Check
 readChecks s = startChecks s ++ (hashChecks s ++ sitesChecks (sitesIn s))

@@ -1,12 +1,14 @@
-// The checks of a report in their order.
+// The checks of a report in their order, and the check of its key.
 ghost use mathlib.Core.Path.{_≡_};
 ghost use Rattle.algorithm.specs.Checks.{firstFailing};
 ghost use Rattle.report.specs.Reading.{startChecks};
+ghost use Rattle.report.specs.Calls.{keyChecks};
 ghost use Rattle.report.specs.Inside.{headOf, stoppedHead, checkedOf, stopped};
 use crate::format::HEAD;
 use crate::format::MOST_SITES;
-use crate::format::SMALLEST;
+use crate::format::SMALLEST_REPORT;
 use crate::format::hash_named;
+use crate::format::tag_size;
 use crate::numbers::number_at;
 use crate::walk;
 use algorithm::Named;
@@ -15,7 +17,7 @@ use algorithm::Named;
 fn check_start(report: &[u8]) -> u32
     ensures { λ r. ⌜ r ≡ firstFailing (startChecks (now (report .entry))) ⌝ }
 {
-    if report.len() < SMALLEST {
+    if report.len() < SMALLEST_REPORT {
         return algorithm::WRONG_REPORT_LENGTH;
     }
     if number_at(report, 0, 4) != (report.len() - 4) as u64 {
@@ -47,11 +49,12 @@ fn check_head(report: &[u8]) -> Head
     if number != algorithm::DONE {
         return refused_head(number);
     }
-    let named = hash_named(number_at(report, 5, 1) as u32);
-    let Named::Is(hash) = named else {
+    let hash = number_at(report, 5, 1) as u32;
+    let named = hash_named(hash);
+    let Named::Is(_) = named else {
         return refused_head(algorithm::UNKNOWN_HASH);
     };
-    let tag = algorithm::shortest_tag(hash);
+    let tag = tag_size(hash);
     if report.len() < HEAD + tag {
         return refused_head(algorithm::WRONG_REPORT_LENGTH);
     }
@@ -106,4 +109,14 @@ pub(crate) fn check_report(report: &[u8]) -> Checked
         sites,
         live: walked.live,
     }
+}
+
+// The check of a report's key, which the tag and the fingerprint share.
+pub(crate) fn check_key(key: &[u8]) -> u32
+    ensures { λ r. ⌜ r ≡ firstFailing (keyChecks (now (key .entry))) ⌝ }
+{
+    if algorithm::MOST_BYTES < key.len() as u64 {
+        return algorithm::KEY_TOO_LONG;
+    }
+    algorithm::DONE
 }

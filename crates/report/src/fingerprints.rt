@@ -5,12 +5,12 @@ ghost use Rattle.algorithm.specs.Hashes.{hashOf};
 ghost use Rattle.hmac.specs.Hmac.{tagOf};
 ghost use Rattle.report.specs.Calls.{FingerprintOutcome};
 ghost use Rattle.report.specs.Inside.{TwoPieces};
+use crate::checks::check_key;
 use crate::checks::check_report;
 use crate::format::COUNT_END;
 use crate::format::FINGERPRINT;
 use crate::format::GAP_END;
 use crate::format::GAP_START;
-use crate::tags::key_number;
 
 // The tag of two pieces.
 fn tag_pieces(hash: u32, key: &[u8], first: &[u8], second: &[u8], out: &mut [u8])
@@ -34,7 +34,7 @@ pub fn fingerprint(report: &[u8], fingerprint_key: &[u8], out: &mut [u8]) -> u32
     if read.number != algorithm::DONE {
         return read.number;
     }
-    let number = key_number(fingerprint_key);
+    let number = check_key(fingerprint_key);
     if number != algorithm::DONE {
         return number;
     }

@@ -1,17 +1,18 @@
-// What the format fixes: the sizes of a report's parts, and the hash that a report names.
+// What the format fixes: the sizes of a report and of its parts, and the hash that a report names.
 ghost use mathlib.Core.Path.{_≡_};
+ghost use Rattle.report.specs.Layout.{tagSize};
 ghost use Rattle.report.specs.Reading.{namedIn};
 use algorithm::Hash;
 use algorithm::Named;
 
+// The fewest and the most bytes of a report.
+pub const SMALLEST_REPORT: usize = 61;
+
+pub const LARGEST_REPORT: usize = 3981;
 // The bytes before the first site.
 pub(crate) const HEAD: usize = 45;
-// The fewest bytes of a report.
-pub(crate) const SMALLEST: usize = 61;
 // The most sites.
 pub(crate) const MOST_SITES: u64 = 64;
-// The most live bytes in all.
-pub(crate) const MOST_LIVE: u64 = 18446744073709551615;
 // The most bytes of a label.
 pub(crate) const LONGEST_LABEL: usize = 48;
 // The bytes of a site beside its label: the label's length, live bytes and live blocks.
@@ -36,4 +37,11 @@ pub(crate) fn hash_named(number: u32) -> Named
         2 => Named::Is(Hash::Sha512),
         _ => Named::Unknown,
     }
+}
+
+// The bytes of a report's tag, by the number of its hash: half a digest.
+pub(crate) fn tag_size(number: u32) -> usize
+    ensures { λ r. ⌜ r ≡ tagSize number ⌝ }
+{
+    if number == 2 { 32 } else { 16 }
 }

@@ -12,6 +12,8 @@ mod walk;
 
 pub use derivation::keys;
 pub use fingerprints::fingerprint;
+pub use format::LARGEST_REPORT;
+pub use format::SMALLEST_REPORT;
 pub use lists::read_into;
 pub use lists::site_into;
 pub use reading::Reading;

@@ -2,12 +2,12 @@
 ghost use mathlib.Core.Path.{_≡_};
 ghost use Prim.Native.Nat.{_≤_};
 ghost use lib.ListN.{length};
-ghost use Rattle.report.specs.Inside.{Stepped, plusOf, endOf, Walked};
+ghost use Rattle.report.specs.Inside.{Stepped, endOf, Walked};
 use crate::format::BESIDE_LABEL;
 use crate::format::HEAD;
 use crate::format::LONGEST_LABEL;
-use crate::format::MOST_LIVE;
 use crate::numbers::number_at;
+use octets::Sum;
 
 // One site: the number that refuses it, where the next one starts, and its live bytes.
 pub struct Step {
@@ -48,27 +48,6 @@ fn pass_site(body: &[u8], at: usize) -> Step
     }
 }
 
-// A sum that knows whether it passed 2^64 - 1.
-pub struct Sum {
-    pub over: bool,
-    pub live: u64,
-}
-
-fn plus(sum: Sum, live: u64) -> Sum
-    ensures { λ r. ⌜ r ≡ plusOf sum live ⌝ }
-{
-    if sum.over || MOST_LIVE - sum.live < live {
-        return Sum {
-            over: true,
-            live: 0,
-        };
-    }
-    Sum {
-        over: false,
-        live: sum.live + live,
-    }
-}
-
 // The number that refuses the sites, and else the sum of their live bytes.
 pub struct Counted {
     pub number: u32,
@@ -93,7 +72,7 @@ fn end(left: bool, sum: Sum) -> Counted
     }
     Counted {
         number: algorithm::DONE,
-        live: sum.live,
+        live: sum.total,
     }
 }
 
@@ -104,7 +83,7 @@ pub(crate) fn walk_sites(body: &[u8], sites: u64) -> Counted
     let mut at = HEAD;
     let mut sum = Sum {
         over: false,
-        live: 0,
+        total: 0,
     };
     let mut i = 0;
     while i < sites {
@@ -116,7 +95,7 @@ pub(crate) fn walk_sites(body: &[u8], sites: u64) -> Counted
             };
         }
         at = site.next;
-        let next = plus(sum, site.live);
+        let next = octets::plus(sum, site.live);
         sum = next;
         i += 1;
     }

@@ -16,21 +16,23 @@ use Rattle.octets.specs.Number.Laws.{number-front}
 use Rattle.octets.specs.Parts.{part-front}
 use Rattle.octets.specs.Same.{equal}
 use Rattle.algorithm.specs.declared.hashes.Hash.{Hash}
+use Rattle.algorithm.specs.declared.hashes.Hash.the-variants.{Sha256, Sha512}
 use Rattle.algorithm.specs.declared.hashes.Named.the-variants.{Is, Unknown}
-use Rattle.algorithm.specs.Hashes.{names, hashOf, sizeOf, shortestOf}
+use Rattle.algorithm.specs.Hashes.{names, hashOf, sizeOf}
 use Rattle.algorithm.specs.Hashes.Laws.{unknown, known}
 use Rattle.algorithm.specs.Refusals.{done, tagDiffers, unknownHash, keyTooLong, wrongSize, prkTooShort, noSuchSite, mostBytes}
 use Rattle.algorithm.specs.Checks.{Check, check, firstFailing, Pass, Refusing, Fail, written, answered}
 use Rattle.algorithm.specs.Checks.Pass.{all, and}
-use Rattle.algorithm.specs.Checks.Refusing.{none, more}
+use Rattle.algorithm.specs.Checks.Refusing.{none}
 use Rattle.algorithm.specs.Checks.Laws.{exactly, exactly-done, done-passes, refuses, append-refuses, append-passes, refusing-append, refused-given, done-work}
 use Rattle.hmac.specs.Hmac.{tagOf}
+use Rattle.hmac.specs.Calls.{allowed}
 use Rattle.hmac.specs.Calls.Laws.{says-yes}
-use Rattle.report.specs.Reading.{namesHash, hashNamed, namedIn, hashIn, tagStart, beforeTag, firstSite, readSites, sitesIn, readChecks, fieldsOf, readOf}
+use Rattle.report.specs.Reading.{namesHash, hashNamed, namedIn, hashIn, tagSizeIn, tagStart, beforeTag, firstSite, readSites, sitesIn, readChecks, fieldsOf, readOf}
 use Rattle.report.specs.Reading.Laws.{read-refusing, First, first, Passed, passed, passes, passes-then}
 use Rattle.report.specs.Fingerprint.{fingerprintOf}
 use Rattle.report.specs.Keys.{keysOf}
-use Rattle.report.specs.Layout.{Site, liveOf}
+use Rattle.report.specs.Layout.{Site, tagSize, liveOf}
 use Rattle.report.specs.Inside.{siteHere, bodySites, refusedReading, headReading}
 use Rattle.report.specs.declared.sites.SiteAt.{SiteAt}
 use Rattle.report.specs.Calls.{readingOf, numbersOf, readIntoChecks, readIntoAnswer, siteNumbers, siteIntoChecks, siteIntoAnswer, siteOf, before, foundSite, refusedSite, Points, placeChecks, siteAnswer, labelAnswer, keyChecks, tagChecks, checkAnswer, fingerprintChecks, fingerprintAnswer, keysChecks, keysAnswer}
@@ -55,12 +57,36 @@ report-hash n e = either (eqb n 1) (eqb n 2) refl refl e
     either false true one two h = subst same (sym (eqb-true n 2 two)) (refl, refl)
     either false false one two h = absurd (true≢false (sym h))
 
--- a key that passes its check
-pub key-fits : (key : List ℕ) → firstFailing (keyChecks key) ≡ done → length key ≤ mostBytes
-key-fits key e = fits (done-passes (keyChecks key) (more (λ f z. omega arith) none) e)
+-- the tag of a report's hash may be asked for, and so may a fingerprint
+pub tag-allowed : (n : ℕ) → allowed (hashNamed n) (tagSize n) ≡ true
+tag-allowed n = asked (eqb n 2)
   where
-    fits : Pass (keyChecks key) → length key ≤ mostBytes
-    fits (and l all) = leb-true (length key) mostBytes l
+    asked : (b : Bool) → allowed (cond b Sha512 Sha256) (cond b 32 16) ≡ true
+    asked true = refl
+    asked false = refl
+
+pub fingerprint-allowed : (n : ℕ) → allowed (hashNamed n) 32 ≡ true
+fingerprint-allowed n = asked (eqb n 2)
+  where
+    asked : (b : Bool) → allowed (cond b Sha512 Sha256) 32 ≡ true
+    asked true = refl
+    asked false = refl
+
+-- a key that passes its checks
+module _ (key : List ℕ) where
+  pub key-refusing : Refusing (keyChecks key)
+  key-refusing = refuses _ _ none
+
+  pub key-fits : firstFailing (keyChecks key) ≡ done → length key ≤ mostBytes
+  key-fits e = fits (done-passes (keyChecks key) key-refusing e)
+    where
+      fits : Pass (keyChecks key) → length key ≤ mostBytes
+      fits (and l all) = leb-true (length key) mostBytes l
+
+-- what is checked after reading and the key decides where both pass
+keyed-then : (s key : List ℕ) → Passed s → firstFailing (keyChecks key) ≡ done → (cs : List Check)
+    → firstFailing (readChecks s ++ (keyChecks key ++ cs)) ≡ firstFailing cs
+keyed-then s key p d cs = passes-then s p (keyChecks key ++ cs) ∙ append-passes (keyChecks key) cs d (key-refusing key)
 
 -- read
 module _ (s : List ℕ) where
@@ -309,7 +335,7 @@ module _ (s : List ℕ) (place : ℕ) (numbers : List ℕ) where
 -- check
 module _ (s key : List ℕ) where
   abbrev compares : Check
-  compares = check (equal (drop (tagStart s) s) (tagOf (hashIn s) key (shortestOf (hashIn s)) (beforeTag s))) tagDiffers
+  compares = check (equal (drop (tagStart s) s) (tagOf (hashIn s) key (tagSizeIn s) (beforeTag s))) tagDiffers
 
   pub check-refused : (firstFailing (readChecks s) ≡ done → ⊥) → checkAnswer s key ≡ firstFailing (readChecks s)
   unfolding checkAnswer
@@ -320,52 +346,52 @@ module _ (s key : List ℕ) where
     unfolding checkAnswer
     check-key z = passes-then s p (keyChecks key ++ (compares ∷ [])) ∙ append-refuses (keyChecks key) (compares ∷ []) z
 
-    pub check-compared : length key ≤ mostBytes
+    pub check-compared : firstFailing (keyChecks key) ≡ done
         → checkAnswer s key
-        ≡ cond (equal (drop (tagStart s) s) (tagOf (hashIn s) key (shortestOf (hashIn s)) (beforeTag s))) done tagDiffers
+        ≡ cond (equal (drop (tagStart s) s) (tagOf (hashIn s) key (tagSizeIn s) (beforeTag s))) done tagDiffers
     unfolding checkAnswer
-    check-compared l = passes-then s p (keyChecks key ++ (compares ∷ [])) ∙ rw (le-leb (length key) mostBytes l)
+    check-compared d = keyed-then s key p d (compares ∷ [])
 
     -- so it says yes exactly to the tag of all bytes before it
-    pub check-tag : length key ≤ mostBytes
-        → checkAnswer s key ≡ done ↔ (drop (tagStart s) s ≡ tagOf (hashIn s) key (shortestOf (hashIn s)) (beforeTag s))
-    check-tag l =
-        let tag : List ℕ = tagOf (hashIn s) key (shortestOf (hashIn s)) (beforeTag s) in
-        subst (λ (n : ℕ). n ≡ done ↔ (drop (tagStart s) s ≡ tag)) (sym (check-compared l)) (says-yes (drop (tagStart s) s) tag)
+    pub check-tag : firstFailing (keyChecks key) ≡ done
+        → checkAnswer s key ≡ done ↔ (drop (tagStart s) s ≡ tagOf (hashIn s) key (tagSizeIn s) (beforeTag s))
+    check-tag d =
+        let tag : List ℕ = tagOf (hashIn s) key (tagSizeIn s) (beforeTag s) in
+        subst (λ (n : ℕ). n ≡ done ↔ (drop (tagStart s) s ≡ tag)) (sym (check-compared d)) (says-yes (drop (tagStart s) s) tag)
 
 -- fingerprint
 module _ (s key out : List ℕ) where
+  abbrev room : Check
+  room = check (eqb (length out) 32) wrongSize
+
   pub fingerprint-refused : (firstFailing (readChecks s) ≡ done → ⊥) → fingerprintAnswer s key out ≡ written (firstFailing (readChecks s)) out
   unfolding fingerprintAnswer
   fingerprint-refused z =
       refused-answer (fingerprintChecks s key out) (fingerprintOf s key) out (firstFailing (readChecks s))
-      (append-refuses (readChecks s) (keyChecks key ++ (check (eqb (length out) 32) wrongSize ∷ [])) z)
+      (append-refuses (readChecks s) (keyChecks key ++ (room ∷ [])) z)
       z
 
   module _ (p : Passed s) where
-    behind : firstFailing (fingerprintChecks s key out) ≡ firstFailing (keyChecks key ++ (check (eqb (length out) 32) wrongSize ∷ []))
-    behind = passes-then s p (keyChecks key ++ (check (eqb (length out) 32) wrongSize ∷ []))
-
     pub fingerprint-key : (firstFailing (keyChecks key) ≡ done → ⊥) → fingerprintAnswer s key out ≡ written (firstFailing (keyChecks key)) out
     unfolding fingerprintAnswer
     fingerprint-key z =
         refused-answer (fingerprintChecks s key out) (fingerprintOf s key) out (firstFailing (keyChecks key))
-        (behind ∙ append-refuses (keyChecks key) (check (eqb (length out) 32) wrongSize ∷ []) z)
+        (passes-then s p (keyChecks key ++ (room ∷ [])) ∙ append-refuses (keyChecks key) (room ∷ []) z)
         z
 
-    module _ (l : length key ≤ mostBytes) where
+    module _ (d : firstFailing (keyChecks key) ≡ done) where
       pub fingerprint-wrong-size : (length out ≡ 32 → ⊥) → fingerprintAnswer s key out ≡ written wrongSize out
       unfolding fingerprintAnswer
       fingerprint-wrong-size ne =
           refused-answer (fingerprintChecks s key out) (fingerprintOf s key) out wrongSize
-          (behind ∙ rw (le-leb (length key) mostBytes l, ne-eqb (length out) 32 ne))
+          (keyed-then s key p d (room ∷ []) ∙ rw (ne-eqb (length out) 32 ne))
           (λ z. omega arith)
 
       pub fingerprint-accepted : length out ≡ 32 → fingerprintAnswer s key out ≡ written done (fingerprintOf s key)
       unfolding fingerprintAnswer
       fingerprint-accepted e =
           done-answer (fingerprintChecks s key out) (fingerprintOf s key) out
-          (behind ∙ rw (le-leb (length key) mostBytes l, eq-eqb (length out) 32 e))
+          (keyed-then s key p d (room ∷ []) ∙ rw (eq-eqb (length out) 32 e))
 
 -- keys
 module _ (n : ℕ) (prk : List ℕ) (tenant machine : ℕ) (out : List ℕ) where
@@ -455,12 +481,15 @@ label-done s place = exactly-done (placeChecks s place) (place-refusing s place)
 
 pub check-done : (s key : List ℕ) → checkAnswer s key ≡ done ↔ Pass (tagChecks s key)
 unfolding checkAnswer
-check-done s key = exactly-done (tagChecks s key) (refusing-append (readChecks s) _ (read-refusing s) (refuses _ _ (refuses _ _ none)))
+check-done s key =
+    exactly-done (tagChecks s key)
+    (refusing-append (readChecks s) _ (read-refusing s) (refusing-append (keyChecks key) _ (key-refusing key) (refuses _ _ none)))
 
 pub fingerprint-done : (s key out : List ℕ) → fingerprintAnswer s key out .0 ≡ done ↔ Pass (fingerprintChecks s key out)
 unfolding fingerprintAnswer
 fingerprint-done s key out =
-    exactly-done (fingerprintChecks s key out) (refusing-append (readChecks s) _ (read-refusing s) (refuses _ _ (refuses _ _ none)))
+    exactly-done (fingerprintChecks s key out)
+    (refusing-append (readChecks s) _ (read-refusing s) (refusing-append (keyChecks key) _ (key-refusing key) (refuses _ _ none)))
 
 pub keys-done : (n : ℕ) (prk : List ℕ) (tenant machine : ℕ) (out : List ℕ)
     → keysAnswer n prk tenant machine out .0 ≡ done ↔ Pass (keysChecks n prk out)

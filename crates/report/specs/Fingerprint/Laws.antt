@@ -10,9 +10,8 @@ use lib.ListN.{length, take, drop}
 use lib.Seq.{drop-drop, take-at, drop-at, slice, slice-empty, length-slice}
 use Rattle.octets.specs.Number.Laws.{number-slice, number-between}
 use Rattle.octets.specs.Number.{numberAt, bytes}
-use Rattle.algorithm.specs.Hashes.{shortestOf}
-use Rattle.report.specs.Layout.{Fields, sitesBytes, AgreeButSendTime}
-use Rattle.report.specs.Reading.{hashNamed, hashIn, tagStart, beforeTag, readSites, fieldsOf, readOf, WellFormed}
+use Rattle.report.specs.Layout.{Fields, sitesBytes, tagSize, AgreeButSendTime}
+use Rattle.report.specs.Reading.{tagSizeIn, tagStart, beforeTag, readSites, fieldsOf, readOf, WellFormed}
 use Rattle.report.specs.Reading.Laws.{behindSent, read-fields, well-formed-passed, tag-low, tag-high, behind-sent}
 use Rattle.report.specs.Fingerprint.{gapStart, gapEnd, messageOf}
 
@@ -85,7 +84,7 @@ module _ (s t : List ℕ) (v : WellFormed s) (w : WellFormed t) where
       -- the count is the length less four, and the length that of the second part, of what stands before it and of the tag
       counts : numberAt s 5 1 ≡ numberAt t 5 1 → slice gapEnd (tagStart s) s ≡ slice gapEnd (tagStart t) t → numberAt s 0 4 ≡ numberAt t 0 4
       counts h q =
-          let tags : shortestOf (hashIn s) ≡ shortestOf (hashIn t) = ap (λ (n : ℕ). shortestOf (hashNamed n)) h in
+          let tags : tagSizeIn s ≡ tagSizeIn t = ap tagSize h in
           omega (
             arith,
             tags,

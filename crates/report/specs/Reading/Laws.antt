@@ -6,7 +6,7 @@ use mathlib.Core.List.{List, [], _∷_, _++_, append-assoc}
 use Prim.Native.Nat.{ℕ, zero, suc, _+_, _-_, _*_, _≤_}
 use native.Mathlib.Nat.{zero-add}
 use native.Mathlib.Omega.{arith}
-use lib.Dec.{leb, ltb, lit≤}
+use lib.Dec.{leb, ltb, eqb, lit≤}
 use lib.ListN.{length, drop, take-append-drop, length-drop}
 use lib.Seq.{length-take-le, slice}
 use borrow.Author.Tests.{leb-true, le-leb, eqb-true, eqb-false, eq-eqb}
@@ -14,15 +14,31 @@ use Rattle.octets.specs.Number.{number, onto, numberAt, bytes}
 use Rattle.octets.specs.Number.Laws.{bytes-number, number-back, number-between}
 use Rattle.octets.specs.Every.{every, allBytes}
 use Rattle.octets.specs.Every.Laws.{and-parts, every-take, every-drop}
-use Rattle.algorithm.specs.Hashes.{shortestOf}
-use Rattle.algorithm.specs.Hashes.Laws.{half-digest, digest-most}
+use Rattle.octets.specs.Sums.{largestTotal}
+use Rattle.algorithm.specs.declared.hashes.Hash.the-variants.{Sha256, Sha512}
+use Rattle.algorithm.specs.Hashes.{sizeOf}
 use Rattle.algorithm.specs.Refusals.{done, labelLengthOutOfRange, sitesMisplaced}
 use Rattle.algorithm.specs.Checks.{Check, firstFailing, Pass, Refusing}
 use Rattle.algorithm.specs.Checks.Pass.{all, and}
 use Rattle.algorithm.specs.Checks.Refusing.{none, more}
 use Rattle.algorithm.specs.Checks.Laws.{done-passes, refuses}
-use Rattle.report.specs.Layout.{Site, Fields, siteBytes, sitesBytes, bytesOf, liveOf}
-use Rattle.report.specs.Reading.{namesHash, hashIn, tagStart, beforeTag, firstSite, withSite, readSites, sitesIn, mostLive, sitesChecks, readChecks, fieldsOf, readOf, WellFormed}
+use Rattle.report.specs.Layout.{Site, Fields, siteBytes, sitesBytes, bytesOf, tagSize, smallestReport, largestReport, liveOf}
+use Rattle.report.specs.Reading.{namesHash, hashNamed, tagSizeIn, tagStart, beforeTag, firstSite, withSite, readSites, sitesIn, sitesChecks, readChecks, fieldsOf, readOf, WellFormed}
+
+-- a report's tag is half a digest of its hash, 32 bytes at most
+pub tag-half : (n : ℕ) → 2 * tagSize n ≡ sizeOf (hashNamed n)
+tag-half n = half (eqb n 2)
+  where
+    half : (b : Bool) → 2 * cond b 32 16 ≡ sizeOf (cond b Sha512 Sha256)
+    half true = refl
+    half false = refl
+
+pub tag-most : (n : ℕ) → tagSize n ≤ 32
+tag-most n = most (eqb n 2)
+  where
+    most : (b : Bool) → cond b 32 16 ≤ 32
+    most true = lit≤ tt
+    most false = lit≤ tt
 
 -- the byte of a number that is one
 byte-is : (n : ℕ) → ltb n 256 ≡ true → bytes 1 n ≡ n ∷ []
@@ -112,28 +128,28 @@ behindSent f = bytes 1 (f .attempt) ++ (bytes 8 (f .memory) ++ (bytes 2 (length 
 
 -- what a report has that reading lets pass
 pub record Passed (s : List ℕ) : Type 0 where
-  pub long : 61 ≤ length s
+  pub long : smallestReport ≤ length s
   pub count : numberAt s 0 4 ≡ length s - 4
   pub version : numberAt s 4 1 ≡ 1
   pub known : namesHash (numberAt s 5 1) ≡ true
-  pub tag-fits : 45 + shortestOf (hashIn s) ≤ length s
+  pub tag-fits : 45 + tagSizeIn s ≤ length s
   pub few : numberAt s 43 2 ≤ 64
   pub placed : sitesIn s .0 ≡ done
-  pub live : liveOf (sitesIn s .1) ≤ mostLive
+  pub live : liveOf (sitesIn s .1) ≤ largestTotal
   pub sites : length (sitesIn s .1) ≡ numberAt s 43 2
 
 module _ (s : List ℕ) where
   -- each check that passes says its part
   all-passed : Pass (readChecks s) → Passed s
   all-passed (and long (and count (and version (and known (and tag (and few (and placed (and live all)))))))) = record {
-    long = leb-true 61 (length s) long;
+    long = leb-true smallestReport (length s) long;
     count = eqb-true (numberAt s 0 4) (length s - 4) count;
     version = eqb-true (numberAt s 4 1) 1 version;
     known = known;
-    tag-fits = leb-true (45 + shortestOf (hashIn s)) (length s) tag;
+    tag-fits = leb-true (45 + tagSizeIn s) (length s) tag;
     few = leb-true (numberAt s 43 2) 64 few;
     placed = eqb-true (sitesIn s .0) done placed;
-    live = leb-true (liveOf (sitesIn s .1)) mostLive live;
+    live = leb-true (liveOf (sitesIn s .1)) largestTotal live;
     sites = sites-count (numberAt s 43 2) (drop 45 (beforeTag s)) (eqb-true (sitesIn s .0) done placed);
   }
 
@@ -144,14 +160,14 @@ module _ (s : List ℕ) where
   pub passes-then : Passed s → (cs : List Check) → firstFailing (readChecks s ++ cs) ≡ firstFailing cs
   passes-then p cs =
       rw (
-        le-leb 61 (length s) (p .long),
+        le-leb smallestReport (length s) (p .long),
         eq-eqb (numberAt s 0 4) (length s - 4) (p .count),
         eq-eqb (numberAt s 4 1) 1 (p .version),
         p .known,
-        le-leb (45 + shortestOf (hashIn s)) (length s) (p .tag-fits),
+        le-leb (45 + tagSizeIn s) (length s) (p .tag-fits),
         le-leb (numberAt s 43 2) 64 (p .few),
         eq-eqb (sitesIn s .0) done (p .placed),
-        le-leb (liveOf (sitesIn s .1)) mostLive (p .live),
+        le-leb (liveOf (sitesIn s .1)) largestTotal (p .live),
       )
 
   pub passes : Passed s → firstFailing (readChecks s) ≡ done
@@ -161,10 +177,10 @@ module _ (s : List ℕ) where
   pub short : Passed s → length (beforeTag s) ≤ 3949
   short p = omega (arith, p .few, length-drop 45 (beforeTag s), sites-short (numberAt s 43 2) (drop 45 (beforeTag s)) (p .placed))
 
-  pub sizes : Passed s → (61 ≤ length s) × (length s ≤ 3981)
+  pub sizes : Passed s → (smallestReport ≤ length s) × (length s ≤ largestReport)
   sizes p =
       let before = length-take-le (tagStart s) s (omega arith) in
-      (p .long, omega (arith, short p, before, half-digest (hashIn s), digest-most (hashIn s)))
+      (p .long, omega (arith, short p, before, tag-most (numberAt s 5 1)))
 
   -- a report that is let pass reads as its fields
   pub read-fields : readOf s .0 ≡ done → readOf s .1 ≡ fieldsOf s

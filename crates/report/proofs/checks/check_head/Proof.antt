@@ -7,10 +7,10 @@ use borrow.Author.Needs.{needs}
 use denote.Ref.{now}
 use Rattle.algorithm.specs.Refusals.{done}
 use Rattle.algorithm.specs.Checks.{firstFailing}
-use Rattle.algorithm.specs.Hashes.{shortestOf}
-use Rattle.algorithm.specs.Hashes.Laws.{half-digest, digest-most}
 use Rattle.octets.specs.Number.{numberAt}
-use Rattle.report.specs.Reading.{hashIn, startChecks}
+use Rattle.report.specs.Layout.{tagSize}
+use Rattle.report.specs.Reading.{tagSizeIn, startChecks}
+use Rattle.report.specs.Reading.Laws.{tag-most}
 use Rattle.report.proofs.Heads.{hash-unknown, hash-known, start-refuses, start-long, head-unknown, head-short, head-sites, head-passes}
 use Rattle.report.proofs.checks.check_head.Statement.{statement}
 use Rattle.report.proofs.checks.check_head.Tie as tie
@@ -32,50 +32,45 @@ returns-2 c =
     let s = now (c .before .before .before .before .before .before .before .before .args .report) in
     let e : firstFailing (startChecks s) ≡ done = sym (c .before .before .before .before .before .before .check-start .ensures) ∙ c .before .before .before .before .before .if1 .left in
     c .refused-head2 .ensures
-    ∙ head-unknown s e (hash-unknown s (c .before .before .before .before .number-at .ensures .is) (sym (c .before .before .before .hash-named .ensures) ∙ c .before .enum-told .given .1))
+    ∙ head-unknown s e (hash-unknown s (c .before .before .before .before .number-at .ensures .is) (sym (c .before .before .before .hash-named .ensures) ∙ c .before .enum-told2 .given .1))
 
 add-if2 : tie.Need-add-if2
-add-if2 c =
-    let h = c .before .before .named .given .0 .0 in
-    omega (arith, c .shortest-tag .ensures, half-digest h, digest-most h)
+add-if2 c = omega (arith, c .tag-size .ensures, tag-most (c .before .before .before .before .number-at .result))
 
 returns-3 : tie.Need-returns-3
 returns-3 c =
-    let s = now (c .before .before .before .before .before .before .before .before .before .before .before .args .report) in
-    let e : firstFailing (startChecks s) ≡ done = sym (c .before .before .before .before .before .before .before .before .before .check-start .ensures) ∙ c .before .before .before .before .before .before .before .before .if1 .left in
-    let named = c .before .before .before .before .named in
-    let k = hash-known s (c .before .before .before .before .before .before .before .number-at .ensures .is) (named .given .0 .0) (sym (c .before .before .before .before .before .before .hash-named .ensures) ∙ named .given .1) in
-    let tag : c .before .before .shortest-tag .result ≡ shortestOf (hashIn s) = c .before .before .shortest-tag .ensures ∙ ap shortestOf (sym (k .1)) in
-    let short : length s < 45 + shortestOf (hashIn s) = omega (arith, tag) in
-    c .refused-head3 .ensures ∙ head-short s e (k .0) short
-
-number-at-requires-2 : tie.Need-number-at-requires-2
-number-at-requires-2 c κs =
     let s = now (c .before .before .before .before .before .before .before .before .before .before .args .report) in
     let e : firstFailing (startChecks s) ≡ done = sym (c .before .before .before .before .before .before .before .before .check-start .ensures) ∙ c .before .before .before .before .before .before .before .if1 .left in
-    omega (arith, start-long s e)
+    let hash = c .before .before .before .before .before .before .number-at .ensures .is in
+    let told = c .before .before .before .enum-told .given in
+    let k = hash-known s hash (told .0 .0) (sym (c .before .before .before .before .before .hash-named .ensures) ∙ told .1) in
+    let tag : c .before .before .tag-size .result ≡ tagSizeIn s = c .before .before .tag-size .ensures ∙ ap tagSize hash in
+    let short : length s < 45 + tagSizeIn s = omega (arith, tag) in
+    c .refused-head3 .ensures ∙ head-short s e k short
 
 returns-4 : tie.Need-returns-4
 returns-4 c =
-    let s = now (c .before .before .before .before .before .before .before .before .before .before .before .before .before .args .report) in
-    let e : firstFailing (startChecks s) ≡ done = sym (c .before .before .before .before .before .before .before .before .before .before .before .check-start .ensures) ∙ c .before .before .before .before .before .before .before .before .before .before .if1 .left in
-    let named = c .before .before .before .before .before .before .named in
-    let k = hash-known s (c .before .before .before .before .before .before .before .before .before .number-at .ensures .is) (named .given .0 .0) (sym (c .before .before .before .before .before .before .before .before .hash-named .ensures) ∙ named .given .1) in
-    let tag : c .before .before .before .before .shortest-tag .result ≡ shortestOf (hashIn s) = c .before .before .before .before .shortest-tag .ensures ∙ ap shortestOf (sym (k .1)) in
-    let long : 45 + shortestOf (hashIn s) ≤ length s = omega (arith, tag) in
+    let s = now (c .before .before .before .before .before .before .before .before .before .before .before .before .args .report) in
+    let e : firstFailing (startChecks s) ≡ done = sym (c .before .before .before .before .before .before .before .before .before .before .check-start .ensures) ∙ c .before .before .before .before .before .before .before .before .before .if1 .left in
+    let hash = c .before .before .before .before .before .before .before .before .number-at .ensures .is in
+    let told = c .before .before .before .before .before .enum-told .given in
+    let k = hash-known s hash (told .0 .0) (sym (c .before .before .before .before .before .before .before .hash-named .ensures) ∙ told .1) in
+    let tag : c .before .before .before .before .tag-size .result ≡ tagSizeIn s = c .before .before .before .before .tag-size .ensures ∙ ap tagSize hash in
+    let long : 45 + tagSizeIn s ≤ length s = omega (arith, tag) in
     let many : 64 < numberAt s 43 2 = omega (arith, c .before .before .number-at2 .ensures .is) in
-    c .refused-head4 .ensures ∙ head-sites s e (k .0) long many
+    c .refused-head4 .ensures ∙ head-sites s e k long many
 
 returns-5 : tie.Need-returns-5
 returns-5 c =
-    let s = now (c .before .before .before .before .before .before .before .before .before .before .before .before .args .report) in
-    let e : firstFailing (startChecks s) ≡ done = sym (c .before .before .before .before .before .before .before .before .before .before .check-start .ensures) ∙ c .before .before .before .before .before .before .before .before .before .if1 .left in
-    let named = c .before .before .before .before .before .named in
-    let k = hash-known s (c .before .before .before .before .before .before .before .before .number-at .ensures .is) (named .given .0 .0) (sym (c .before .before .before .before .before .before .before .hash-named .ensures) ∙ named .given .1) in
-    let tag : c .before .before .before .shortest-tag .result ≡ shortestOf (hashIn s) = c .before .before .before .shortest-tag .ensures ∙ ap shortestOf (sym (k .1)) in
-    let long : 45 + shortestOf (hashIn s) ≤ length s = omega (arith, tag) in
+    let s = now (c .before .before .before .before .before .before .before .before .before .before .before .args .report) in
+    let e : firstFailing (startChecks s) ≡ done = sym (c .before .before .before .before .before .before .before .before .before .check-start .ensures) ∙ c .before .before .before .before .before .before .before .before .if1 .left in
+    let hash = c .before .before .before .before .before .before .before .number-at .ensures .is in
+    let told = c .before .before .before .before .enum-told .given in
+    let k = hash-known s hash (told .0 .0) (sym (c .before .before .before .before .before .before .hash-named .ensures) ∙ told .1) in
+    let tag : c .before .before .before .tag-size .result ≡ tagSizeIn s = c .before .before .before .tag-size .ensures ∙ ap tagSize hash in
+    let long : 45 + tagSizeIn s ≤ length s = omega (arith, tag) in
     let few : numberAt s 43 2 ≤ 64 = omega (arith, c .before .number-at2 .ensures .is) in
-    ap (λ (n : ℕ). record { number = done; end = length s - n }) tag ∙ head-passes s e (k .0) long few
+    ap (λ (n : ℕ). record { number = done; end = length s - n }) tag ∙ head-passes s e k long few
 
 pub check-head-spec : {M : Type 1} → statement M
 check-head-spec =
@@ -95,7 +90,7 @@ check-head-spec =
     add-if2
     (λ c κs. search needs)
     returns-3
-    number-at-requires-2
+    (λ c κs. search needs)
     (λ c κs. search needs)
     returns-4
     (λ c. search needs)

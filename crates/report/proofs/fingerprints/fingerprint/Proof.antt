@@ -1,33 +1,34 @@
 -- `report::fingerprints::fingerprint`: reading, the key's check, the output's, then the tag of both pieces. Assumes nothing.
 use mathlib.Core.Path.{_≡_, sym, ap, _∙_}
 use mathlib.Core.List.{List, _++_}
-use Prim.Native.Nat.{ℕ, _-_, _≤_}
+use Prim.Native.Nat.{ℕ, _-_}
 use native.Mathlib.Omega.{arith}
 use lib.ListN.{length, take, drop, length-take, length-drop}
 use lib.Seq.{length-take-le, slice}
 use borrow.Author.Needs.{needs}
 use denote.Ref.{now}
 use Rattle.octets.specs.Parts.{part-slice}
-use Rattle.algorithm.specs.Hashes.{names, hashOf}
+use Rattle.algorithm.specs.Hashes.{hashOf}
 use Rattle.algorithm.specs.Hashes.Laws.{block-most}
-use Rattle.algorithm.specs.Refusals.{done, mostBytes}
-use Rattle.algorithm.specs.Checks.{written}
+use Rattle.algorithm.specs.Refusals.{done}
+use Rattle.algorithm.specs.Checks.{firstFailing, written}
 use Rattle.hmac.specs.Hmac.{tagOf}
-use Rattle.report.specs.Reading.{tagStart, beforeTag}
+use Rattle.report.specs.Reading.{namesHash, tagStart, beforeTag}
 use Rattle.report.specs.Reading.Laws.{short}
 use Rattle.report.specs.Fingerprint.{messageOf, fingerprintOf}
+use Rattle.report.specs.Calls.{keyChecks}
 use Rattle.report.specs.Calls.Laws.{key-fits, fingerprint-refused, fingerprint-key, fingerprint-wrong-size, fingerprint-accepted}
 use Rattle.report.specs.Inside.{TwoPieces}
 use Rattle.report.specs.declared.checks.Checked.{Checked}
-use Rattle.report.proofs.Checked.{Read, number, refuses, read, made, hash-is, end-low, end-high}
+use Rattle.report.proofs.Checked.{Read, number, refuses, read, hash-is, end-low, end-high}
 use Rattle.report.proofs.fingerprints.fingerprint.Statement.{statement}
 use Rattle.report.proofs.fingerprints.fingerprint.Tie as tie
 
 -- the two pieces of a report that passes, and the tag of both
 module _ (s key : List ℕ) {r : Checked} (p : Read s r) where
-  pieces : (at : ℕ) (out : List ℕ) → length key ≤ mostBytes → length out ≡ 32
+  pieces : (at : ℕ) (out : List ℕ) → firstFailing (keyChecks key) ≡ done → length out ≡ 32
       → TwoPieces (r .hash) key (take 22 (drop 4 s)) (take (r .end - at) (drop at s)) out
-  pieces at out l e =
+  pieces at out d e =
       let low = end-low s p in
       let high = end-high s p in
       let few = short s (p .passes) in
@@ -35,8 +36,8 @@ module _ (s key : List ℕ) {r : Checked} (p : Read s r) where
       let first : length (take 22 (drop 4 s)) ≡ 22 = length-take-le 22 (drop 4 s) (rw length-drop (omega arith)) in
       let second = length-take (r .end - at) (drop at s) in
       record {
-        known = ap names (p .hash) ∙ made s p;
-        key-fits = l;
+        known = ap namesHash (p .hash) ∙ p .passes .known;
+        key-fits = key-fits key d;
         fits = omega (arith, block-most (hashOf (r .hash)), second);
         size = e;
       }
@@ -62,7 +63,7 @@ returns-2 c =
     let s = now (start .args .report) in
     let out = now (start .args .out) in
     let p = read s (c .before .before .before .before .check-report .ensures) (c .before .before .if1 .left) in
-    let e = c .before .key-number .ensures in
+    let e = c .before .check-key .ensures in
     ap (λ (n : ℕ). written n out) e
     ∙ sym (fingerprint-key s (now (start .args .fingerprint-key)) out (p .passes) (λ d. c .if2 .taken (e ∙ d)))
 
@@ -72,8 +73,8 @@ returns-3 c =
     let s = now (start .args .report) in
     let key = now (start .args .fingerprint-key) in
     let p = read s (c .before .before .before .before .before .check-report .ensures) (c .before .before .before .if1 .left) in
-    let fits = key-fits key (sym (c .before .before .key-number .ensures) ∙ c .before .if2 .left) in
-    sym (fingerprint-wrong-size s key (now (start .args .out)) (p .passes) fits (c .if3 .taken))
+    let passes = sym (c .before .before .check-key .ensures) ∙ c .before .if2 .left in
+    sym (fingerprint-wrong-size s key (now (start .args .out)) (p .passes) passes (c .if3 .taken))
 
 part-tag-pieces-end : tie.Need-part-tag-pieces-end
 part-tag-pieces-end c =
@@ -106,8 +107,8 @@ tag-pieces-requires c κs =
     let s = now (start .args .report) in
     let key = now (start .args .fingerprint-key) in
     let p = read s (c .before .before .before .before .before .before .before .before .check-report .ensures) (c .before .before .before .before .before .before .if1 .left) in
-    let fits = key-fits key (sym (c .before .before .before .before .before .key-number .ensures) ∙ c .before .before .before .before .if2 .left) in
-    pieces s key p _ (now (start .args .out)) fits (c .before .before .before .if3 .left)
+    let passes = sym (c .before .before .before .before .before .check-key .ensures) ∙ c .before .before .before .before .if2 .left in
+    pieces s key p _ (now (start .args .out)) passes (c .before .before .before .if3 .left)
 
 returns-4 : tie.Need-returns-4
 returns-4 c =
@@ -115,9 +116,9 @@ returns-4 c =
     let s = now (start .args .report) in
     let key = now (start .args .fingerprint-key) in
     let p = read s (c .before .before .before .before .before .before .before .before .before .before .before .check-report .ensures) (c .before .before .before .before .before .before .before .before .before .if1 .left) in
-    let fits = key-fits key (sym (c .before .before .before .before .before .before .before .before .key-number .ensures) ∙ c .before .before .before .before .before .before .before .if2 .left) in
+    let passes = sym (c .before .before .before .before .before .before .before .before .check-key .ensures) ∙ c .before .before .before .before .before .before .before .if2 .left in
     ap (written done) (tagged s key p (c .before .before .tag-pieces .ensures))
-    ∙ sym (fingerprint-accepted s key (now (start .args .out)) (p .passes) fits (c .before .before .before .before .before .before .if3 .left))
+    ∙ sym (fingerprint-accepted s key (now (start .args .out)) (p .passes) passes (c .before .before .before .before .before .before .if3 .left))
 
 pub fingerprint-spec : {M : Type 1} → statement M
 fingerprint-spec =

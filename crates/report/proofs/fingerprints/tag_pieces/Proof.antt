@@ -7,27 +7,28 @@ use native.Mathlib.Omega.{arith}
 use lib.ListN.{take, length-append}
 use borrow.Author.Needs.{needs}
 use Rattle.algorithm.specs.declared.hashes.Hash.{Hash}
-use Rattle.algorithm.specs.Hashes.{hashOf}
-use Rattle.algorithm.specs.Hashes.Laws.{half-digest, digest-least, digest-most, block-most}
+use Rattle.algorithm.specs.Hashes.{names, hashOf}
+use Rattle.algorithm.specs.Hashes.Laws.{block-most}
 use Rattle.hmac.specs.Hmac.{tagOf}
 use Rattle.hmac.specs.Keyed.{Message, HeldKeyed, freshKeyed, afterKeyed}
 use Rattle.hmac.specs.Keyed.Laws.{keyed-count, keyed-held, keyed-after-count, keyed-after-held, keyed-after-append}
 use Rattle.hmac.specs.Calls.{allowed, startOf, updateOf, tagAnswer}
-use Rattle.hmac.specs.Calls.Laws.{length-allowed, start-accepted, update-accepted, tag-accepted}
+use Rattle.hmac.specs.Calls.Laws.{start-accepted, update-accepted, tag-accepted}
 use Rattle.hmac.specs.Pieces.Laws.{fresh-message}
 use Rattle.hmac.specs.declared.keyed.Keyed.{Keyed}
 use Rattle.hmac.specs.declared.keyed.Started.{Started}
 use Rattle.hmac.specs.declared.keyed.Fed.{Fed}
+use Rattle.report.specs.Reading.{hashNamed}
+use Rattle.report.specs.Calls.Laws.{report-hash, fingerprint-allowed}
 use Rattle.report.specs.Inside.{TwoPieces}
 use Rattle.report.proofs.fingerprints.tag_pieces.Statement.{statement}
 use Rattle.report.proofs.fingerprints.tag_pieces.Tie as tie
 
--- 32 bytes are half a digest, or a digest, or between
-allowed-32 : (h : Hash) → allowed h 32 ≡ true
-allowed-32 h = length-allowed h 32 (omega (arith, half-digest h, digest-most h)) (digest-least h)
-
 -- both pieces are taken, and the tag is that of both
 module _ {n : ℕ} {key a b out : List ℕ} (p : TwoPieces n key a b out) where
+  made : (names n ≡ true) × (hashOf n ≡ hashNamed n)
+  made = report-hash n (p .known)
+
   both-took : {s : Started} {f g : Fed} → s ≡ startOf n key → f ≡ updateOf (s .keyed) a → g ≡ updateOf (f .keyed) b
       → g .keyed ≡ afterKeyed (freshKeyed (hashOf n) key) (a ++ b)
   both-took {s} {f} {g} es ef eg =
@@ -40,7 +41,7 @@ module _ {n : ℕ} {key a b out : List ℕ} (p : TwoPieces n key a b out) where
       let held : HeldKeyed k = keyed-held h key in
       let held₁ : HeldKeyed k₁ = keyed-after-held k a held (omega arith) in
       let count₁ = keyed-after-count k a in
-      let e : s .keyed ≡ k = ap (λ (r : Started). r .keyed) (es ∙ start-accepted n key (p .known) (p .key-fits)) in
+      let e : s .keyed ≡ k = ap (λ (r : Started). r .keyed) (es ∙ start-accepted n key (made .0) (p .key-fits)) in
       let e₁ : f .keyed ≡ k₁ =
       ap (λ (r : Fed). r .keyed) (ef ∙ ap (λ (x : Keyed). updateOf x a) e ∙ update-accepted k a (held .sound) (omega arith))
       in
@@ -51,8 +52,8 @@ module _ {n : ℕ} {key a b out : List ℕ} (p : TwoPieces n key a b out) where
       → _≡_ {A = ℕ × List ℕ} (r, o) (tagAnswer k 32 out) → o ≡ tagOf (hashOf n) key 32 (a ++ b)
   both-tagged {k} e {r} {o} t =
       let after : Keyed = afterKeyed (freshKeyed (hashOf n) key) (a ++ b) in
-      let m : Message after n key (a ++ b) = fresh-message n key (a ++ b) (p .known) (p .key-fits) (rw length-append (p .fits)) in
-      let asked : allowed (after .hash) 32 ≡ true = allowed-32 (after .hash) in
+      let m : Message after n key (a ++ b) = fresh-message n key (a ++ b) (made .0) (p .key-fits) (rw length-append (p .fits)) in
+      let asked : allowed (after .hash) 32 ≡ true = ap (λ (h : Hash). allowed h 32) (m .hash ∙ made .1) ∙ fingerprint-allowed n in
       ap (λ (x : ℕ × List ℕ). x .1) (t ∙ ap (λ (x : Keyed). tagAnswer x 32 out) e ∙ tag-accepted after 32 out (m .sound) asked (p .size))
       ∙ ap (take 32) (m .tag)
 

@@ -4,8 +4,8 @@ use Prim.Native.Nat.{_+_, _-_, _≤_, _<_}
 use native.Mathlib.Omega.{arith}
 use borrow.Author.Needs.{needs}
 use denote.Ref.{now}
-use Rattle.report.specs.Reading.{mostLive}
-use Rattle.report.specs.declared.walk.Sum.{Sum}
+use Rattle.octets.specs.Sums.{largestTotal}
+use Rattle.octets.specs.declared.sums.Sum.{Sum}
 use Rattle.report.proofs.Walking.{Far, far-start, far-refused, far-more, far-end, refused-walk}
 use Rattle.report.proofs.walk.walk_sites.Statement.{statement}
 use Rattle.report.proofs.walk.walk_sites.Tie as tie
@@ -46,7 +46,7 @@ returns-2 c =
     let a = c .before .before .before .before .args in
     let l = c .before .before .loop in
     let all : a .sites ≤ l .i = omega arith in
-    let fits : c .end .result .live ≤ mostLive = omega (arith, c .end .ok) in
+    let fits : c .end .result .live ≤ largestTotal = omega (arith, c .end .ok) in
     far-end (now (a .body)) (a .sites) (l .at) (l .sum) (l .i) (l .inv) all (c .end .result) fits (c .end .ensures)
 
 pub walk-sites-spec : {M : Type 1} → statement M

@@ -1,10 +1,10 @@
--- `inspect::sum::plus` meets its contract. Assumes nothing.
+-- `octets::sums::plus` meets its contract. Assumes nothing.
 use mathlib.Core.Logic.{⊎-elim}
 use native.Mathlib.Omega.{arith}
 use borrow.Author.Needs.{needs}
 use borrow.Author.Tests.{ltb-false}
-use Rattle.inspect.proofs.sum.plus.Statement.{statement}
-use Rattle.inspect.proofs.sum.plus.Tie as tie
+use Rattle.octets.proofs.sums.plus.Statement.{statement}
+use Rattle.octets.proofs.sums.plus.Tie as tie
 
 returns : tie.Need-returns
 returns c = ⊎-elim (λ w. rw (w .taken)) (λ w. rw (w .0 .left, w .2 .taken)) (c .if1 .came)

@@ -1,11 +1,11 @@
--- `report::tags::key_number`: the one check. Assumes nothing.
+-- `report::checks::check_key`: the one check. Assumes nothing.
 use native.Mathlib.Omega.{arith}
 use lib.ListN.{length}
 use borrow.Author.Tests.{le-leb, lt-leb}
 use denote.Ref.{now}
 use Rattle.algorithm.specs.Refusals.{mostBytes}
-use Rattle.report.proofs.tags.key_number.Statement.{statement}
-use Rattle.report.proofs.tags.key_number.Tie as tie
+use Rattle.report.proofs.checks.check_key.Statement.{statement}
+use Rattle.report.proofs.checks.check_key.Tie as tie
 
 returns : tie.Need-returns
 returns c =
@@ -17,5 +17,5 @@ returns-2 c =
     let n = length (now (c .before .args .key)) in
     rw (le-leb n mostBytes (omega arith))
 
-pub key-number-spec : {M : Type 1} → statement M
-key-number-spec = tie.close (tie.spec returns returns-2)
+pub check-key-spec : {M : Type 1} → statement M
+check-key-spec = tie.close (tie.spec returns returns-2)

@@ -1,0 +1,28 @@
+// A sum of numbers that knows whether it passed 2^64 - 1.
+ghost use mathlib.Core.Path.{_≡_};
+ghost use Rattle.octets.specs.Sums.{plusOf};
+
+// The largest total.
+const LARGEST_TOTAL: u64 = 18446744073709551615;
+
+// The total, and whether it passed the largest: then it is 0.
+pub struct Sum {
+    pub over: bool,
+    pub total: u64,
+}
+
+// The sum with one number more. Once it is over it stays so.
+pub fn plus(sum: Sum, number: u64) -> Sum
+    ensures { λ r. ⌜ r ≡ plusOf sum number ⌝ }
+{
+    if sum.over || LARGEST_TOTAL - sum.total < number {
+        return Sum {
+            over: true,
+            total: 0,
+        };
+    }
+    Sum {
+        over: false,
+        total: sum.total + number,
+    }
+}
