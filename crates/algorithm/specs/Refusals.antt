@@ -1,4 +1,5 @@
--- The numbers that come back, by name (docs/PROTOCOL.md, "The numbers that come back"). Assumes nothing.
+-- The numbers that come back, and the limits that several layers share, by name (docs/PROTOCOL.md, "The numbers that come back").
+-- Assumes nothing.
 use Prim.Native.Nat.{ℕ}
 
 -- done, or the tag matches
@@ -76,3 +77,10 @@ noSuchSite = 17
 -- the most bytes of a key, and the most bytes hashed in all (refusals 3 and 4)
 abbrev pub mostBytes : ℕ
 mostBytes = 4294967295
+
+-- the most bytes of info (refusal 8), and the most digests of an output (refusal 9)
+abbrev pub mostInfo : ℕ
+mostInfo = 1024
+
+abbrev pub mostDigests : ℕ
+mostDigests = 255

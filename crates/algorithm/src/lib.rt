@@ -14,6 +14,8 @@ pub use refusals::KEY_TOO_LONG;
 pub use refusals::LABEL_LENGTH_OUT_OF_RANGE;
 pub use refusals::MESSAGE_TOO_LONG;
 pub use refusals::MOST_BYTES;
+pub use refusals::MOST_DIGESTS;
+pub use refusals::MOST_INFO;
 pub use refusals::NO_SUCH_SITE;
 pub use refusals::OUTPUT_TOO_LONG;
 pub use refusals::PRK_TOO_SHORT;

@@ -1,4 +1,5 @@
-// The numbers that come back (docs/PROTOCOL.md's table), by name; specs/Refusals.antt has the same ones for the contracts.
+// The numbers that come back (docs/PROTOCOL.md's table), and the limits that several layers share, by name; specs/Refusals.antt has
+// the same ones for the contracts.
 
 // Done, or the tag matches.
 pub const DONE: u32 = 0;
@@ -39,3 +40,7 @@ pub const NO_SUCH_SITE: u32 = 17;
 
 // The most bytes of a key, and the most bytes hashed in all (refusals 3 and 4).
 pub const MOST_BYTES: u64 = 4294967295;
+// The most bytes of info (refusal 8).
+pub const MOST_INFO: usize = 1024;
+// The most digests of an output (refusal 9).
+pub const MOST_DIGESTS: usize = 255;

@@ -11,11 +11,12 @@ use Rattle.octets.specs.Copy.{over}
 use Rattle.octets.specs.Copy.Laws.{over-short, over-long}
 use Rattle.algorithm.specs.declared.hashes.Hash.{Hash}
 use Rattle.algorithm.specs.Hashes.{sizeOf}
+use Rattle.algorithm.specs.Refusals.{mostDigests}
 use Rattle.hkdf.specs.Hkdf.{stretches, expandOf}
 use Rattle.hkdf.specs.Hkdf.Laws.{stretches-length, expand-within}
 
--- a counter below 255 while there is output left
-pub below : (i d n : ℕ) → i * d < n → n ≤ 255 * d → i < 255
+-- a counter below the most digests while there is output left
+pub below : (i d n : ℕ) → i * d < n → n ≤ mostDigests * d → i < mostDigests
 below i d n h k = lt-of-mul-lt-mul-right d (omega arith)
 
 -- nothing written
@@ -52,7 +53,7 @@ lent-more a b o {out} {y} {at} e h w v =
     ∙ over-more a b o (omega arith)
 
 -- an output that is full
-pub full : (h : Hash) (prk info o : List ℕ) (i : ℕ) → i ≤ 255 → length o ≤ i * sizeOf h
+pub full : (h : Hash) (prk info o : List ℕ) (i : ℕ) → i ≤ mostDigests → length o ≤ i * sizeOf h
     → over (stretches h prk info i) o ≡ expandOf h prk info (length o)
 full h prk info o i b l =
     over-long (stretches h prk info i) o (omega (arith, stretches-length h prk info i)) ∙ sym (expand-within h prk info (length o) i b l)

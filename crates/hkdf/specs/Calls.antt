@@ -8,13 +8,9 @@ use Prim.Native.Nat.{ℕ, _-_, _*_}
 use lib.Dec.{leb, eqb}
 use lib.ListN.{length}
 use Rattle.algorithm.specs.Hashes.{names, hashOf, blockOf, sizeOf}
-use Rattle.algorithm.specs.Refusals.{unknownHash, keyTooLong, messageTooLong, wrongSize, prkTooShort, infoTooLong, outputTooLong, mostBytes}
+use Rattle.algorithm.specs.Refusals.{unknownHash, keyTooLong, messageTooLong, wrongSize, prkTooShort, infoTooLong, outputTooLong, mostBytes, mostInfo, mostDigests}
 use Rattle.algorithm.specs.Checks.{Check, check, answered}
 use Rattle.hkdf.specs.Hkdf.{extractOf, expandOf}
-
--- the most bytes of info
-abbrev pub mostInfo : ℕ
-mostInfo = 1024
 
 -- extract(number, salt, ikm, out)
 abbrev pub extractChecks : ℕ → List ℕ → List ℕ → List ℕ → List Check
@@ -38,7 +34,7 @@ expandChecks n prk info out =
     ∷ check (leb (length prk) mostBytes) keyTooLong
     ∷ check (leb (sizeOf (hashOf n)) (length prk)) prkTooShort
     ∷ check (leb (length info) mostInfo) infoTooLong
-    ∷ check (leb (length out) (255 * sizeOf (hashOf n))) outputTooLong
+    ∷ check (leb (length out) (mostDigests * sizeOf (hashOf n))) outputTooLong
     ∷ []
 
 pub expandAnswer : ℕ → List ℕ → List ℕ → List ℕ → ℕ × List ℕ

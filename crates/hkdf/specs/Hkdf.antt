@@ -8,6 +8,7 @@ use lib.Dec.{eqb}
 use lib.ListN.{length, take, replicate}
 use Rattle.algorithm.specs.declared.hashes.Hash.{Hash}
 use Rattle.algorithm.specs.Hashes.{sizeOf}
+use Rattle.algorithm.specs.Refusals.{mostDigests}
 use Rattle.hmac.specs.Hmac.{hmacOf}
 
 -- 2.2: the key that a salt makes; an empty one stands for as many zeros as a digest has bytes
@@ -27,6 +28,6 @@ unfoldable pub stretches : Hash → List ℕ → List ℕ → ℕ → List ℕ
 stretches h prk info zero = []
 stretches h prk info (suc n) = stretches h prk info n ++ stretch h prk info (suc n)
 
--- the first n bytes of T(1) to T(255)
+-- the first n bytes of T(1) to T(255), as many digests as an output has at most
 pub expandOf : Hash → List ℕ → List ℕ → ℕ → List ℕ
-expandOf h prk info n = take n (stretches h prk info 255)
+expandOf h prk info n = take n (stretches h prk info mostDigests)

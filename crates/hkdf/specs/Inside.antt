@@ -5,10 +5,9 @@ use mathlib.Core.List.{List}
 use Prim.Native.Nat.{ℕ, _+_, _*_, _≤_}
 use lib.ListN.{length}
 use Rattle.algorithm.specs.Hashes.{names, hashOf, sizeOf}
-use Rattle.algorithm.specs.Refusals.{mostBytes}
+use Rattle.algorithm.specs.Refusals.{mostBytes, mostInfo, mostDigests}
 use Rattle.hmac.specs.Keyed.{HeldKeyed}
 use Rattle.hmac.specs.declared.keyed.Keyed.{Keyed}
-use Rattle.hkdf.specs.Calls.{mostInfo}
 
 -- a number that names a hash, and a key that fits
 pub record Keyable (n : ℕ) (prk : List ℕ) : Type 0 where
@@ -19,7 +18,7 @@ pub record Keyable (n : ℕ) (prk : List ℕ) : Type 0 where
 pub record Expandable (n : ℕ) (prk info out : List ℕ) : Type 0 where
   pub key : Keyable n prk
   pub short : length info ≤ mostInfo
-  pub room : length out ≤ 255 * sizeOf (hashOf n)
+  pub room : length out ≤ mostDigests * sizeOf (hashOf n)
 
 -- a sound keyed state with room for the last block, info and the counter
 pub record Stretchable (k : Keyed) (last info : List ℕ) : Type 0 where

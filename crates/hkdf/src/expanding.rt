@@ -14,9 +14,6 @@ ghost use Rattle.hkdf.specs.Inside.{Keyable, Expandable, Stretchable};
 use algorithm::Named;
 use hmac::Keyed;
 
-// The most bytes of info.
-const MOST_INFO: usize = 1024;
-
 // The start under the key, made once for all blocks.
 fn start(number: u32, prk: &[u8]) -> Keyed
     requires { ⌜ Keyable number (now prk) ⌝ }
@@ -90,10 +87,10 @@ fn expand_for(number: u32, size: usize, prk: &[u8], info: &[u8], out: &mut [u8])
     if prk.len() < size {
         return algorithm::PRK_TOO_SHORT;
     }
-    if MOST_INFO < info.len() {
+    if algorithm::MOST_INFO < info.len() {
         return algorithm::INFO_TOO_LONG;
     }
-    if 255 * size < out.len() {
+    if algorithm::MOST_DIGESTS * size < out.len() {
         return algorithm::OUTPUT_TOO_LONG;
     }
     fill(number, prk, info, out);

@@ -26,28 +26,35 @@ module _ (n : ℕ) where
   pub which-is : (h : Hash) → whichOf n ≡ Is h → (names n ≡ true) × (hashOf n ≡ h)
   which-is h e = known (names n) (hashOf n) h e
 
--- the shortest tag is half a digest, and a digest is at most a block
-pub half-digest : (h : Hash) → 2 * shortestOf h ≡ sizeOf h
-half-digest Sha256 = refl
-half-digest Sha512 = refl
+-- the sizes of a hash, by the hashes that we make
+pub record Sizes (h : Hash) : Type 0 where
+  pub half : 2 * shortestOf h ≡ sizeOf h
+  pub some : 0 < sizeOf h
+  pub most : sizeOf h ≤ 64
+  pub fits : sizeOf h ≤ blockOf h
+  pub block : blockOf h ≤ 128
 
-pub digest-fits-block : (h : Hash) → sizeOf h ≤ blockOf h
-digest-fits-block Sha256 = lit≤ tt
-digest-fits-block Sha512 = lit≤ tt
+pub sizes : (h : Hash) → Sizes h
+sizes Sha256 = record { half = refl; some = lit< tt; most = lit≤ tt; fits = lit≤ tt; block = lit≤ tt }
+sizes Sha512 = record { half = refl; some = lit< tt; most = lit≤ tt; fits = lit≤ tt; block = lit≤ tt }
 
--- a block has a byte; the largest block, and the smallest and the largest digest
-pub block-positive : (h : Hash) → 0 < blockOf h
-block-positive Sha256 = lit< tt
-block-positive Sha512 = lit< tt
+module _ (h : Hash) where
+  -- the shortest tag is half a digest, and a digest is at most a block
+  pub half-digest : 2 * shortestOf h ≡ sizeOf h
+  half-digest = sizes h .half
 
-pub block-most : (h : Hash) → blockOf h ≤ 128
-block-most Sha256 = lit≤ tt
-block-most Sha512 = lit≤ tt
+  pub digest-fits-block : sizeOf h ≤ blockOf h
+  digest-fits-block = sizes h .fits
 
-pub digest-least : (h : Hash) → 32 ≤ sizeOf h
-digest-least Sha256 = lit≤ tt
-digest-least Sha512 = lit≤ tt
+  -- a digest and a block have a byte; the largest digest and the largest block
+  pub digest-positive : 0 < sizeOf h
+  digest-positive = sizes h .some
 
-pub digest-most : (h : Hash) → sizeOf h ≤ 64
-digest-most Sha256 = lit≤ tt
-digest-most Sha512 = lit≤ tt
+  pub block-positive : 0 < blockOf h
+  block-positive = omega (arith, sizes h .some, sizes h .fits)
+
+  pub digest-most : sizeOf h ≤ 64
+  digest-most = sizes h .most
+
+  pub block-most : blockOf h ≤ 128
+  block-most = sizes h .block

@@ -7,12 +7,12 @@ use Prim.Native.Nat.{ℕ, _-_, _*_, _≤_, _<_}
 use lib.ListN.{length}
 use borrow.Author.Tests.{le-leb, lt-leb, eq-eqb, ne-eqb}
 use Rattle.algorithm.specs.Hashes.{names, hashOf, blockOf, sizeOf}
-use Rattle.algorithm.specs.Refusals.{done, unknownHash, keyTooLong, messageTooLong, wrongSize, prkTooShort, infoTooLong, outputTooLong, mostBytes}
+use Rattle.algorithm.specs.Refusals.{done, unknownHash, keyTooLong, messageTooLong, wrongSize, prkTooShort, infoTooLong, outputTooLong, mostBytes, mostInfo, mostDigests}
 use Rattle.algorithm.specs.Checks.{Fail, Pass, written}
 use Rattle.algorithm.specs.Checks.Refusing.{none}
 use Rattle.algorithm.specs.Checks.Laws.{exactly, exactly-done, refuses}
 use Rattle.hkdf.specs.Hkdf.{extractOf, expandOf}
-use Rattle.hkdf.specs.Calls.{expandChecks, extractChecks, mostInfo, extractAnswer, expandAnswer}
+use Rattle.hkdf.specs.Calls.{expandChecks, extractChecks, extractAnswer, expandAnswer}
 
 module _ (n : ℕ) (salt ikm out : List ℕ) where
   pub extract-unknown : names n ≡ false → extractAnswer n salt ikm out ≡ written unknownHash out
@@ -62,16 +62,16 @@ module _ (n : ℕ) (prk info out : List ℕ) where
             rw (h, le-leb (length prk) mostBytes k, le-leb (sizeOf (hashOf n)) (length prk) l, lt-leb (length info) mostInfo i)
 
         module _ (i : length info ≤ mostInfo) where
-          pub expand-output-too-long : 255 * sizeOf (hashOf n) < length out → expandAnswer n prk info out ≡ written outputTooLong out
+          pub expand-output-too-long : mostDigests * sizeOf (hashOf n) < length out → expandAnswer n prk info out ≡ written outputTooLong out
           unfolding expandAnswer
           expand-output-too-long o =
-              rw (h, le-leb (length prk) mostBytes k, le-leb (sizeOf (hashOf n)) (length prk) l, le-leb (length info) mostInfo i, lt-leb (length out) (255 * sizeOf (hashOf n)) o)
+              rw (h, le-leb (length prk) mostBytes k, le-leb (sizeOf (hashOf n)) (length prk) l, le-leb (length info) mostInfo i, lt-leb (length out) (mostDigests * sizeOf (hashOf n)) o)
 
-          pub expand-accepted : length out ≤ 255 * sizeOf (hashOf n)
+          pub expand-accepted : length out ≤ mostDigests * sizeOf (hashOf n)
               → expandAnswer n prk info out ≡ written done (expandOf (hashOf n) prk info (length out))
           unfolding expandAnswer
           expand-accepted o =
-              rw (h, le-leb (length prk) mostBytes k, le-leb (sizeOf (hashOf n)) (length prk) l, le-leb (length info) mostInfo i, le-leb (length out) (255 * sizeOf (hashOf n)) o)
+              rw (h, le-leb (length prk) mostBytes k, le-leb (sizeOf (hashOf n)) (length prk) l, le-leb (length info) mostInfo i, le-leb (length out) (mostDigests * sizeOf (hashOf n)) o)
 
 -- each number comes back exactly when its check fails and every earlier one passes
 module _ (r : ℕ) (refusal : r ≡ done → ⊥) where

@@ -10,6 +10,7 @@ use lib.Seq.{length-take-le, take-append-le, take-take}
 use borrow.Author.Tests.{eq-eqb, ne-eqb}
 use Rattle.algorithm.specs.declared.hashes.Hash.{Hash}
 use Rattle.algorithm.specs.Hashes.{sizeOf}
+use Rattle.algorithm.specs.Refusals.{mostDigests}
 use Rattle.hmac.specs.Hmac.{hmacOf}
 use Rattle.hmac.specs.Hmac.Laws.{hmac-length}
 use Rattle.hkdf.specs.Hkdf.{saltOf, extractOf, stretch, stretches, expandOf}
@@ -73,17 +74,17 @@ module _ (h : Hash) (prk info : List ℕ) where
       ∙ stretches-begin m i k l
 
   -- so as many as cover the output are enough
-  pub expand-within : (n i : ℕ) → i ≤ 255 → n ≤ i * sizeOf h → expandOf h prk info n ≡ take n (stretches h prk info i)
+  pub expand-within : (n i : ℕ) → i ≤ mostDigests → n ≤ i * sizeOf h → expandOf h prk info n ≡ take n (stretches h prk info i)
   expand-within n i b l =
-      let e : 255 ≡ i + (255 - i) = omega arith in
-      expand-is h prk info n ∙ ap (λ (j : ℕ). take n (stretches h prk info j)) e ∙ stretches-begin n i (255 - i) l
+      let e : mostDigests ≡ i + (mostDigests - i) = omega arith in
+      expand-is h prk info n ∙ ap (λ (j : ℕ). take n (stretches h prk info j)) e ∙ stretches-begin n i (mostDigests - i) l
 
   -- a shorter expand is the beginning of a longer one
   pub expand-begins : (m n : ℕ) → m ≤ n → expandOf h prk info m ≡ take m (expandOf h prk info n)
   expand-begins m n l =
-      expand-is h prk info m ∙ sym (take-take m n (stretches h prk info 255) l) ∙ ap (take m) (sym (expand-is h prk info n))
+      expand-is h prk info m ∙ sym (take-take m n (stretches h prk info mostDigests) l) ∙ ap (take m) (sym (expand-is h prk info n))
 
-  -- up to 255 digests, expand makes as many bytes as asked for
-  pub expand-length : (n : ℕ) → n ≤ 255 * sizeOf h → length (expandOf h prk info n) ≡ n
+  -- up to the most digests, expand makes as many bytes as asked for
+  pub expand-length : (n : ℕ) → n ≤ mostDigests * sizeOf h → length (expandOf h prk info n) ≡ n
   expand-length n l =
-      ap length (expand-is h prk info n) ∙ length-take-le n (stretches h prk info 255) (omega (arith, stretches-length 255))
+      ap length (expand-is h prk info n) ∙ length-take-le n (stretches h prk info mostDigests) (omega (arith, stretches-length mostDigests))

@@ -5,7 +5,7 @@ use mathlib.Core.Bool.{true}
 use mathlib.Core.List.{List}
 use Prim.Native.Nat.{ℕ, _+_, _-_, _≤_}
 use native.Mathlib.Omega.{arith}
-use lib.ListN.{length}
+use lib.ListN.{length, length-append}
 use Rattle.algorithm.specs.Hashes.Laws.{block-most}
 use Rattle.algorithm.specs.declared.hashes.Hash.{Hash}
 use Rattle.algorithm.specs.Hashes.{names, hashOf, blockOf}
@@ -13,11 +13,12 @@ use Rattle.algorithm.specs.Refusals.{mostBytes}
 use Rattle.hash.specs.State.Laws.{sound-count}
 use Rattle.hmac.specs.Keyed.{Message, innerOf, HeldKeyed, freshKeyed, afterKeyed}
 use Rattle.hmac.specs.Keyed.Laws.{sound-inner, keyed-hash, keyed-count, keyed-held, keyed-after-hash, keyed-after-count, keyed-after-held, keyed-after-append, keyed-after-nothing, full-fresh}
-use Rattle.hmac.specs.Calls.{startOf, tagAnswer, verifyAnswer, tagMessageAnswer, verifyMessageAnswer}
+use Rattle.hmac.specs.Calls.{startOf, updateOf, tagAnswer, verifyAnswer, tagMessageAnswer, verifyMessageAnswer}
 use Rattle.hmac.specs.Calls.Laws.{start-accepted, update-too-long, update-accepted, message-tag, message-verify}
 use Rattle.algorithm.specs.Pieces.{afterAll, takenOf}
 use Rattle.algorithm.specs.Pieces.Laws.{Taking, after-all, all-held}
-use Rattle.hmac.specs.Pieces.{given}
+use Rattle.hmac.specs.Pieces.{given, Leads}
+use Rattle.hmac.specs.Pieces.Leads.{one, more}
 use Rattle.hmac.specs.declared.keyed.Keyed.{Keyed}
 use Rattle.hmac.specs.declared.keyed.Started.{Started}
 use Rattle.hmac.specs.declared.keyed.Fed.{Fed}
@@ -39,6 +40,23 @@ taking = record {
   where
     both : Fed → ℕ × Keyed
     both r = (r .number, r .keyed)
+
+-- a piece that fits is taken
+piece-after : (k : Keyed) (p : List ℕ) → HeldKeyed k → k .count + length p ≤ mostBytes → {f : Fed} → f ≡ updateOf k p → f .keyed ≡ afterKeyed k p
+piece-after k p h l e = ap (λ (f : Fed). f .keyed) (e ∙ update-accepted k p (h .sound) l)
+
+-- pieces that fit together lead to the keyed state after their bytes in one, and it is sound
+pub leads-after : {k last : Keyed} {m : List ℕ} → Leads k m last → HeldKeyed k → k .count + length m ≤ mostBytes → last ≡ afterKeyed k m
+leads-after {k} {m = m} (one e) h l = piece-after k m h l e
+leads-after {k} (more p {m = m} {f = f} e rest) h l =
+    let n = length-append p m in
+    let first : f .keyed ≡ afterKeyed k p = piece-after k p h (omega arith) e in
+    let held : HeldKeyed (f .keyed) = subst HeldKeyed (sym first) (keyed-after-held k p h (omega arith)) in
+    let count : f .keyed .count ≡ k .count + length p = ap (λ (x : Keyed). x .count) first ∙ keyed-after-count k p in
+    leads-after rest held (omega arith) ∙ ap (λ (x : Keyed). afterKeyed x m) first ∙ keyed-after-append k p m (h .wide)
+
+pub leads-held : {k last : Keyed} {m : List ℕ} → Leads k m last → HeldKeyed k → k .count + length m ≤ mostBytes → HeldKeyed last
+leads-held {k} {m = m} r h l = subst HeldKeyed (sym (leads-after r h l)) (keyed-after-held k m h l)
 
 -- a keyed start that took a message
 pub fresh-message : (n : ℕ) (key m : List ℕ) → names n ≡ true → length key ≤ mostBytes → length m ≤ mostBytes - blockOf (hashOf n)

@@ -13,7 +13,8 @@ use Rattle.octets.specs.Copy.{over}
 use Rattle.octets.specs.Copy.Laws.{over-length}
 use Rattle.octets.specs.Zeros.Laws.{take-whole}
 use Rattle.algorithm.specs.Hashes.{hashOf, sizeOf}
-use Rattle.algorithm.specs.Hashes.Laws.{digest-least, digest-most}
+use Rattle.algorithm.specs.Hashes.Laws.{digest-positive, digest-most}
+use Rattle.algorithm.specs.Refusals.{mostDigests}
 use Rattle.hkdf.specs.Hkdf.{stretch, stretches}
 use Rattle.hkdf.specs.Hkdf.Laws.{stretch-none, stretch-length, stretches-none, stretches-more, stretches-length}
 use Rattle.hkdf.proofs.Stretches.{start-size, start-room, next-block}
@@ -23,12 +24,12 @@ use Rattle.hkdf.proofs.expanding.fill.Tie as tie
 
 record Inv (n : ℕ) (prk info out₀ : List ℕ) (size : ℕ) (out block : List ℕ) (filled at i : ℕ) : Type 0 where
   pub size-is : size ≡ sizeOf (hashOf n)
-  pub least : 32 ≤ size
+  pub some : 0 < size
   pub most : size ≤ 64
-  pub room : length out₀ ≤ 255 * size
+  pub room : length out₀ ≤ mostDigests * size
   pub len : length out ≡ length out₀
   pub place : at ≡ i * size
-  pub bound : i ≤ 255
+  pub bound : i ≤ mostDigests
   pub wide : length block ≡ 64
   pub fits : filled ≤ 64
   pub last : take filled block ≡ stretch (hashOf n) prk info i
@@ -53,7 +54,7 @@ loop-holds c =
     let size = start-size h prk (c .before .start .ensures) (c .digest-size .ensures) in
     record {
       size-is = size;
-      least = omega (arith, size, digest-least h);
+      some = omega (arith, size, digest-positive h);
       most = omega (arith, size, digest-most h);
       room = omega (arith, size, start .pre .room);
       len = refl;
@@ -98,7 +99,7 @@ loop-again c =
     let size = c .before .before .before .before .before .before .before .before .before .digest-size .result in
     let l = c .before .before .before .before .before .before .before .before .loop in
     let v = l .inv in
-    let less : l .i < 255 = below (l .i) size (length o) (omega arith) (v .room) in
+    let less : l .i < mostDigests = below (l .i) size (length o) (omega arith) (v .room) in
     let T = stretch h prk info (l .i + 1) in
     let n : length T ≡ size = stretch-length h prk info (l .i) ∙ sym (v .size-is) in
     let kept : take size (c .before .before .before .before .before .stretch .result) ≡ T =
@@ -114,7 +115,7 @@ loop-again c =
     in
     record {
       size-is = v .size-is;
-      least = v .least;
+      some = v .some;
       most = v .most;
       room = v .room;
       len = ap length is ∙ over-length (stretches h prk info (l .i + 1)) o;

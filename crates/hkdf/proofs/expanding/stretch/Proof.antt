@@ -1,48 +1,59 @@
 -- `hkdf::expanding::stretch`: three pieces taken, and the tag over zeros. Assumes nothing.
-use mathlib.Core.Path.{_≡_, sym, ap, subst, _∙_}
+use mathlib.Core.Path.{_≡_, ap, _∙_}
 use mathlib.Core.List.{List, [], _∷_, _++_}
-use Prim.Native.Nat.{ℕ}
+use Prim.Native.Nat.{ℕ, _+_, _≤_}
 use native.Mathlib.Omega.{arith}
-use lib.ListN.{replicate}
+use lib.ListN.{length, replicate, length-append}
 use borrow.Author.Needs.{needs}
 use denote.Ref.{now}
 use Rattle.octets.specs.Copy.{over}
+use Rattle.octets.specs.Zeros.{zerosTo}
 use Rattle.octets.specs.Zeros.Laws.{over-zeros}
 use Rattle.algorithm.specs.Hashes.Laws.{digest-most}
+use Rattle.algorithm.specs.Refusals.{mostBytes}
 use Rattle.hmac.specs.Keyed.{HeldKeyed, afterKeyed, fullTag}
 use Rattle.hmac.specs.Keyed.Laws.{full-length}
+use Rattle.hmac.specs.Pieces.{Leads}
+use Rattle.hmac.specs.Pieces.Leads.{one, more}
+use Rattle.hmac.specs.Pieces.Laws.{leads-after, leads-held}
 use Rattle.hmac.specs.declared.keyed.Keyed.{Keyed}
-use Rattle.hkdf.proofs.Stretches.{three-held, three-took}
+use Rattle.hkdf.specs.Inside.{Stretchable}
 use Rattle.hkdf.proofs.expanding.stretch.Statement.{statement}
 use Rattle.hkdf.proofs.expanding.stretch.Tie as tie
+
+-- the keyed state that the last block, info and the counter lead to, and its full tag
+module _ {k after : Keyed} (last info : List ℕ) (i : ℕ) (s : Stretchable k last info) (r : Leads k (last ++ (info ++ (i ∷ []))) after) where
+  fits : k .count + length (last ++ (info ++ (i ∷ []))) ≤ mostBytes
+  fits = simp length-append (s .room)
+
+  held : HeldKeyed after
+  held = leads-held r (s .held) fits
+
+  block : over (fullTag after) (replicate 64 0) ≡ zerosTo 64 (fullTag (afterKeyed k (last ++ (info ++ (i ∷ [])))))
+  block =
+      over-zeros 64 (fullTag after) (omega (arith, full-length after held, digest-most (after .hash)))
+      ∙ ap (λ (x : Keyed). zerosTo 64 (fullTag x)) (leads-after r (s .held) fits)
 
 tag-into-requires : tie.Need-tag-into-requires
 tag-into-requires c κs =
     let start = c .before .before .before .before .before .before .before .before .before .before in
-    let k = start .args .keyed in
     let last = now (start .args .last) in
-    let info = now (start .args .info) in
-    let one : List ℕ = start .args .i ∷ [] in
-    let e : c .before .before .update3 .result .keyed ≡ afterKeyed k (last ++ (info ++ one)) =
-    three-took k last info one (start .pre .held) (start .pre .room) (c .before .before .before .before .before .before .before .update .ensures) (c .before .before .before .before .before .update2 .ensures) (c .before .before .update3 .ensures)
-    in
-    (subst HeldKeyed (sym e) (three-held k last info one (start .pre .held) (start .pre .room)), digest-most (c .before .before .update3 .result .keyed .hash))
+    let info = now (start .args .info) in (
+      held last info (start .args .i) (start .pre)
+          (more last (c .before .before .before .before .before .before .before .update .ensures)
+          (more info (c .before .before .before .before .before .update2 .ensures) (one (c .before .before .update3 .ensures)))),
+      digest-most (c .before .before .update3 .result .keyed .hash),
+    )
 
 returns : tie.Need-returns
 returns c =
     let start = c .before .before .before .before .before .before .before .before .before .before .before .before in
-    let k = start .args .keyed in
     let last = now (start .args .last) in
     let info = now (start .args .info) in
-    let one : List ℕ = start .args .i ∷ [] in
-    let after : Keyed = afterKeyed k (last ++ (info ++ one)) in
-    let e : c .before .before .before .before .update3 .result .keyed ≡ after =
-    three-took k last info one (start .pre .held) (start .pre .room) (c .before .before .before .before .before .before .before .before .before .update .ensures) (c .before .before .before .before .before .before .before .update2 .ensures) (c .before .before .before .before .update3 .ensures)
-    in
-    let n = full-length after (three-held k last info one (start .pre .held) (start .pre .room)) in
     c .before .tag-into .ensures
-    ∙ ap (λ (x : Keyed). over (fullTag x) (replicate 64 0)) e
-    ∙ over-zeros 64 (fullTag after) (omega (arith, n, digest-most (after .hash)))
+    ∙ block last info (start .args .i) (start .pre)
+    (more last (c .before .before .before .before .before .before .before .before .before .update .ensures)
+    (more info (c .before .before .before .before .before .before .before .update2 .ensures) (one (c .before .before .before .before .update3 .ensures))))
 
 pub stretch-spec : {M : Type 1} → statement M
 stretch-spec =

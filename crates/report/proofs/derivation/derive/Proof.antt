@@ -9,9 +9,10 @@ use borrow.Author.Needs.{needs}
 use borrow.Rule.Slice.PartMut.{putMid}
 use denote.Ref.{now}
 use Rattle.algorithm.specs.Hashes.{hashOf, sizeOf}
+use Rattle.algorithm.specs.Refusals.{mostInfo}
 use Rattle.hkdf.specs.Hkdf.{expandOf}
 use Rattle.hkdf.specs.Hkdf.Laws.{expand-length}
-use Rattle.hkdf.specs.Calls.{mostInfo, expandAnswer}
+use Rattle.hkdf.specs.Calls.{expandAnswer}
 use Rattle.hkdf.specs.Calls.Laws.{expand-accepted}
 use Rattle.report.specs.Keys.{forTag, infoOf}
 use Rattle.report.specs.Inside.{Derivable}

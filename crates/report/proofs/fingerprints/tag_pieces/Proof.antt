@@ -1,5 +1,5 @@
 -- `report::fingerprints::tag_pieces`: two pieces taken, and a tag of 32 bytes. Assumes nothing.
-use mathlib.Core.Path.{_≡_, ap, _∙_}
+use mathlib.Core.Path.{_≡_, ap, subst, _∙_}
 use mathlib.Core.Bool.{true}
 use mathlib.Core.List.{List, _++_}
 use Prim.Native.Nat.{ℕ}
@@ -10,11 +10,13 @@ use Rattle.algorithm.specs.declared.hashes.Hash.{Hash}
 use Rattle.algorithm.specs.Hashes.{names, hashOf}
 use Rattle.algorithm.specs.Hashes.Laws.{block-most}
 use Rattle.hmac.specs.Hmac.{tagOf}
-use Rattle.hmac.specs.Keyed.{Message, HeldKeyed, freshKeyed, afterKeyed}
-use Rattle.hmac.specs.Keyed.Laws.{keyed-count, keyed-held, keyed-after-count, keyed-after-held, keyed-after-append}
+use Rattle.hmac.specs.Keyed.{Message, freshKeyed, afterKeyed}
+use Rattle.hmac.specs.Keyed.Laws.{keyed-count, keyed-held}
 use Rattle.hmac.specs.Calls.{allowed, startOf, updateOf, tagAnswer}
-use Rattle.hmac.specs.Calls.Laws.{start-accepted, update-accepted, tag-accepted}
-use Rattle.hmac.specs.Pieces.Laws.{fresh-message}
+use Rattle.hmac.specs.Calls.Laws.{start-accepted, tag-accepted}
+use Rattle.hmac.specs.Pieces.{Leads}
+use Rattle.hmac.specs.Pieces.Leads.{one, more}
+use Rattle.hmac.specs.Pieces.Laws.{leads-after, fresh-message}
 use Rattle.hmac.specs.declared.keyed.Keyed.{Keyed}
 use Rattle.hmac.specs.declared.keyed.Started.{Started}
 use Rattle.hmac.specs.declared.keyed.Fed.{Fed}
@@ -33,20 +35,9 @@ module _ {n : ℕ} {key a b out : List ℕ} (p : TwoPieces n key a b out) where
       → g .keyed ≡ afterKeyed (freshKeyed (hashOf n) key) (a ++ b)
   both-took {s} {f} {g} es ef eg =
       let h : Hash = hashOf n in
-      let k : Keyed = freshKeyed h key in
-      let k₁ : Keyed = afterKeyed k a in
-      let fits = p .fits in
-      let block = block-most h in
-      let count = keyed-count h key in
-      let held : HeldKeyed k = keyed-held h key in
-      let held₁ : HeldKeyed k₁ = keyed-after-held k a held (omega arith) in
-      let count₁ = keyed-after-count k a in
-      let e : s .keyed ≡ k = ap (λ (r : Started). r .keyed) (es ∙ start-accepted n key (made .0) (p .key-fits)) in
-      let e₁ : f .keyed ≡ k₁ =
-      ap (λ (r : Fed). r .keyed) (ef ∙ ap (λ (x : Keyed). updateOf x a) e ∙ update-accepted k a (held .sound) (omega arith))
-      in
-      ap (λ (r : Fed). r .keyed) (eg ∙ ap (λ (x : Keyed). updateOf x b) e₁ ∙ update-accepted k₁ b (held₁ .sound) (omega arith))
-      ∙ keyed-after-append k a b (held .wide)
+      let start : s .keyed ≡ freshKeyed h key = ap (λ (r : Started). r .keyed) (es ∙ start-accepted n key (made .0) (p .key-fits)) in
+      let both : Leads (freshKeyed h key) (a ++ b) (g .keyed) = subst (λ (k : Keyed). Leads k (a ++ b) (g .keyed)) start (more a ef (one eg)) in
+      leads-after both (keyed-held h key) (omega (arith, p .fits, keyed-count h key, block-most h, length-append a b))
 
   both-tagged : {k : Keyed} → k ≡ afterKeyed (freshKeyed (hashOf n) key) (a ++ b) → {r : ℕ} {o : List ℕ}
       → _≡_ {A = ℕ × List ℕ} (r, o) (tagAnswer k 32 out) → o ≡ tagOf (hashOf n) key 32 (a ++ b)
