@@ -5,7 +5,7 @@ pub mod Unique
 pub mod Inner
 use mathlib.Core.Path.{_≡_}
 use mathlib.Core.Bool.{Bool, _&&_}
-use mathlib.Core.List.{List, [], _∷_}
+use mathlib.Core.List.{List, [], _∷_, _++_}
 use Prim.Native.Nat.{ℕ, _+_, _-_}
 use lib.Dec.{leb, eqb}
 use lib.ListN.{length, take}
@@ -48,13 +48,17 @@ updateOf k p = record { number = firstFailing (updateChecks k p); keyed = decide
 abbrev pub UpdateOutcome : Keyed → List ℕ → Fed → Type 0
 UpdateOutcome k p r = r ≡ updateOf k p
 
+-- a tag of t bytes, and as many for the output or for what is presented
+abbrev pub lengthChecks : Hash → ℕ → List ℕ → List Check
+lengthChecks h t bytes = check (allowed h t) tagLengthOutOfRange ∷ check (eqb (length bytes) t) wrongSize ∷ []
+
+-- what is presented, compared with a tag
+abbrev pub comparison : List ℕ → List ℕ → List Check
+comparison presented tag = check (equal presented tag) tagDiffers ∷ []
+
 -- tag(keyed, tag_length, out)
 abbrev pub tagChecks : Keyed → ℕ → List ℕ → List Check
-tagChecks k t out =
-    check (soundKeyed k) stateNotSound
-    ∷ check (allowed (k .hash) t) tagLengthOutOfRange
-    ∷ check (eqb (length out) t) wrongSize
-    ∷ []
+tagChecks k t bytes = check (soundKeyed k) stateNotSound ∷ lengthChecks (k .hash) t bytes
 
 pub tagAnswer : Keyed → ℕ → List ℕ → ℕ × List ℕ
 tagAnswer k t out = answered (tagChecks k t out) (take t (fullTag k)) out
@@ -62,14 +66,9 @@ tagAnswer k t out = answered (tagChecks k t out) (take t (fullTag k)) out
 abbrev pub TagOutcome : Keyed → ℕ → List ℕ → ℕ → List ℕ → Type 0
 TagOutcome k t out r after = _≡_ {A = ℕ × List ℕ} (r, after) (tagAnswer k t out)
 
--- verify(keyed, tag_length, presented)
+-- verify(keyed, tag_length, presented): the checks of the tag, and then the comparison
 abbrev pub verifyChecks : Keyed → ℕ → List ℕ → List Check
-verifyChecks k t presented =
-    check (soundKeyed k) stateNotSound
-    ∷ check (allowed (k .hash) t) tagLengthOutOfRange
-    ∷ check (eqb (length presented) t) wrongSize
-    ∷ check (equal presented (take t (fullTag k))) tagDiffers
-    ∷ []
+verifyChecks k t presented = tagChecks k t presented ++ comparison presented (take t (fullTag k))
 
 pub verifyAnswer : Keyed → ℕ → List ℕ → ℕ
 verifyAnswer k t presented = firstFailing (verifyChecks k t presented)
@@ -77,26 +76,30 @@ verifyAnswer k t presented = firstFailing (verifyChecks k t presented)
 abbrev pub VerifyOutcome : Keyed → ℕ → List ℕ → ℕ → Type 0
 VerifyOutcome k t presented r = r ≡ verifyAnswer k t presented
 
--- tag_message(number, key, message, tag_length, out)
-abbrev pub messageChecks : ℕ → List ℕ → List ℕ → ℕ → List ℕ → List Check → List Check
-messageChecks n key m t bytes rest =
-    check (names n) unknownHash
-    ∷ check (leb (length key) mostBytes) keyTooLong
-    ∷ check (leb (length m) (mostBytes - blockOf (hashOf n))) messageTooLong
-    ∷ check (allowed (hashOf n) t) tagLengthOutOfRange
-    ∷ check (eqb (length bytes) t) wrongSize
-    ∷ rest
+-- a message that fits after the block of its key
+abbrev pub fitChecks : ℕ → List ℕ → List Check
+fitChecks n m = check (leb (length m) (mostBytes - blockOf (hashOf n))) messageTooLong ∷ []
+
+-- a message that is taken in one piece: the checks of the start, and then that it fits
+abbrev pub takenChecks : ℕ → List ℕ → List ℕ → List Check
+takenChecks n key m = startChecks n key ++ fitChecks n m
+
+-- tag_message(number, key, message, tag_length, out): the checks of a message that is taken, and then of the tag's length
+abbrev pub messageChecks : ℕ → List ℕ → List ℕ → ℕ → List ℕ → List Check
+messageChecks n key m t bytes = takenChecks n key m ++ lengthChecks (hashOf n) t bytes
 
 pub tagMessageAnswer : ℕ → List ℕ → List ℕ → ℕ → List ℕ → ℕ × List ℕ
-tagMessageAnswer n key m t out = answered (messageChecks n key m t out []) (tagOf (hashOf n) key t m) out
+tagMessageAnswer n key m t out = answered (messageChecks n key m t out) (tagOf (hashOf n) key t m) out
 
 abbrev pub TagMessageOutcome : ℕ → List ℕ → List ℕ → ℕ → List ℕ → ℕ → List ℕ → Type 0
 TagMessageOutcome n key m t out r after = _≡_ {A = ℕ × List ℕ} (r, after) (tagMessageAnswer n key m t out)
 
--- verify_message(number, key, message, tag_length, presented)
+-- verify_message(number, key, message, tag_length, presented): the checks of the tag, and then the comparison
+abbrev pub verifyMessageChecks : ℕ → List ℕ → List ℕ → ℕ → List ℕ → List Check
+verifyMessageChecks n key m t presented = messageChecks n key m t presented ++ comparison presented (tagOf (hashOf n) key t m)
+
 pub verifyMessageAnswer : ℕ → List ℕ → List ℕ → ℕ → List ℕ → ℕ
-verifyMessageAnswer n key m t presented =
-    firstFailing (messageChecks n key m t presented (check (equal presented (tagOf (hashOf n) key t m)) tagDiffers ∷ []))
+verifyMessageAnswer n key m t presented = firstFailing (verifyMessageChecks n key m t presented)
 
 abbrev pub VerifyMessageOutcome : ℕ → List ℕ → List ℕ → ℕ → List ℕ → ℕ → Type 0
 VerifyMessageOutcome n key m t presented r = r ≡ verifyMessageAnswer n key m t presented

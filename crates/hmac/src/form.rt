@@ -1,6 +1,6 @@
 // The block form of a key, its pads, and the hash after a pad.
 ghost use mathlib.Core.Path.{_≡_};
-ghost use Prim.Native.Nat.{_≤_, _<_};
+ghost use Prim.Native.Nat.{_≤_};
 ghost use lib.ListN.{length, take};
 ghost use Rattle.algorithm.specs.Hashes.{blockOf};
 ghost use Rattle.algorithm.specs.Refusals.{mostBytes};

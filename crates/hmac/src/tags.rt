@@ -2,8 +2,9 @@
 ghost use mathlib.Core.Path.{_≡_};
 ghost use mathlib.Core.Bool.{true};
 ghost use Rattle.octets.specs.Zeros.{zerosTo};
+ghost use Rattle.algorithm.specs.Checks.{firstFailing};
 ghost use Rattle.hmac.specs.Keyed.{soundKeyed, fullTag};
-ghost use Rattle.hmac.specs.Calls.{allowed, TagOutcome, VerifyOutcome};
+ghost use Rattle.hmac.specs.Calls.{allowed, tagChecks, TagOutcome, VerifyOutcome};
 use crate::keyed::Keyed;
 use algorithm::Hash;
 
@@ -34,10 +35,10 @@ fn length_allowed(hash: Hash, tag_length: usize) -> bool
     tag_length <= size
 }
 
-// The tag of the bytes taken so far, which does not use the state up; 10 where the state is not sound, 5 where the length is out of
-// range, 6 where the output is not of that length.
-pub fn tag(keyed: Keyed, tag_length: usize, out: &mut [u8]) -> u32
-    ensures { λ r. ⌜ TagOutcome keyed «tag_length» (now (out .entry)) r (now (out .exit)) ⌝ }
+// The checks that tag and verify share, of an output or of what is presented: 10 where the state is not sound, 5 where the length
+// is out of range, 6 where the bytes are not of that length, and 0 where none fails.
+fn check(keyed: Keyed, tag_length: usize, bytes: &[u8]) -> u32
+    ensures { λ r. ⌜ r ≡ firstFailing (tagChecks keyed «tag_length» (now (bytes .entry))) ⌝ }
 {
     let ok = crate::soundness::sound(keyed);
     if !ok {
@@ -48,8 +49,20 @@ pub fn tag(keyed: Keyed, tag_length: usize, out: &mut [u8]) -> u32
     if !in_range {
         return algorithm::TAG_LENGTH_OUT_OF_RANGE;
     }
-    if out.len() != tag_length {
+    if bytes.len() != tag_length {
         return algorithm::WRONG_SIZE;
+    }
+    algorithm::DONE
+}
+
+// The tag of the bytes taken so far, which does not use the state up; 10 where the state is not sound, 5 where the length is out of
+// range, 6 where the output is not of that length.
+pub fn tag(keyed: Keyed, tag_length: usize, out: &mut [u8]) -> u32
+    ensures { λ r. ⌜ TagOutcome keyed «tag_length» (now (out .entry)) r (now (out .exit)) ⌝ }
+{
+    let refusal = check(keyed, tag_length, out);
+    if refusal != algorithm::DONE {
+        return refusal;
     }
     let whole = full(keyed);
     octets::copy_prefix(&whole, out);
@@ -61,17 +74,9 @@ pub fn tag(keyed: Keyed, tag_length: usize, out: &mut [u8]) -> u32
 pub fn verify(keyed: Keyed, tag_length: usize, presented: &[u8]) -> u32
     ensures { λ r. ⌜ VerifyOutcome keyed «tag_length» (now (presented .entry)) r ⌝ }
 {
-    let ok = crate::soundness::sound(keyed);
-    if !ok {
-        return algorithm::STATE_NOT_SOUND;
-    }
-    let hash = keyed.hash;
-    let in_range = length_allowed(hash, tag_length);
-    if !in_range {
-        return algorithm::TAG_LENGTH_OUT_OF_RANGE;
-    }
-    if presented.len() != tag_length {
-        return algorithm::WRONG_SIZE;
+    let refusal = check(keyed, tag_length, presented);
+    if refusal != algorithm::DONE {
+        return refusal;
     }
     let whole = full(keyed);
     let equal = octets::same(presented, &whole[..tag_length]);

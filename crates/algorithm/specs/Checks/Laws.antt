@@ -8,7 +8,7 @@ use Prim.Native.Nat.{ℕ, suc}
 use native.Mathlib.Omega.{arith}
 use borrow.Author.Tests.{eq-eqb, ne-eqb}
 use Rattle.algorithm.specs.Refusals.{done}
-use Rattle.algorithm.specs.Checks.{Check, check, firstFailing, decided, Pass, Fail, Refusing}
+use Rattle.algorithm.specs.Checks.{Check, check, firstFailing, decided, written, answered, Pass, Fail, Refusing}
 use Rattle.algorithm.specs.Checks.Pass.{all, and}
 use Rattle.algorithm.specs.Checks.Fail.{here, later}
 use Rattle.algorithm.specs.Checks.Refusing.{none, more}
@@ -89,6 +89,10 @@ done-work cs work given e = rw e
 
 pub refused-given {ℓ} : {A : Type ℓ} (cs : List Check) (work given : A) → (firstFailing cs ≡ done → ⊥) → decided cs work given ≡ given
 refused-given cs work given z = rw (ne-eqb (firstFailing cs) done z)
+
+pub answered-refused : (cs : List Check) (work given : List ℕ) {n : ℕ} → n ≡ firstFailing cs → (n ≡ done → ⊥)
+    → answered cs work given ≡ written n given
+answered-refused cs work given {n} e z = rw (← e, ne-eqb n done z)
 
 -- no second outcome: what meets the equation of a call is one
 pub one-outcome {ℓ} : {A : Type ℓ} {a b outcome : A} → a ≡ outcome → b ≡ outcome → a ≡ b

@@ -1,11 +1,11 @@
 -- Laws of the calls, for the layers above and for this crate's proofs: what each answers once its checks are known. Assumes nothing.
-use mathlib.Core.Path.{_≡_, refl, sym, ap, subst}
+use mathlib.Core.Path.{_≡_, refl, sym, ap, subst, _∙_}
 use mathlib.Core.Logic.{_↔_}
 use mathlib.Core.Bool.{Bool, true, false, cond}
-use mathlib.Core.List.{List, [], _∷_}
+use mathlib.Core.List.{List, _++_}
 use Prim.Native.Nat.{ℕ, _+_, _-_, _≤_, _<_}
 use native.Mathlib.Omega.{arith}
-use lib.Dec.{eqb, leb}
+use lib.Dec.{leb}
 use lib.ListN.{length, take}
 use borrow.Author.Tests.{le-leb, lt-leb, leb-true, eq-eqb, ne-eqb}
 use Rattle.octets.specs.Every.Laws.{and-parts}
@@ -13,13 +13,13 @@ use Rattle.octets.specs.Same.{equal}
 use Rattle.octets.specs.Same.Laws.{equal-tells}
 use Rattle.algorithm.specs.declared.hashes.Hash.{Hash}
 use Rattle.algorithm.specs.Hashes.{names, hashOf, blockOf, sizeOf, shortestOf}
-use Rattle.algorithm.specs.Refusals.{done, tagDiffers, unknownHash, keyTooLong, messageTooLong, tagLengthOutOfRange, wrongSize, stateNotSound, mostBytes}
-use Rattle.algorithm.specs.Checks.{Fail, Pass, written, check, firstFailing, answered}
+use Rattle.algorithm.specs.Refusals.{done, tagDiffers, unknownHash, keyTooLong, messageTooLong, wrongSize, stateNotSound, mostBytes}
+use Rattle.algorithm.specs.Checks.{Check, Fail, Pass, Refusing, written, firstFailing, answered}
 use Rattle.algorithm.specs.Checks.Refusing.{none}
-use Rattle.algorithm.specs.Checks.Laws.{exactly, exactly-done, refuses, refused-given}
+use Rattle.algorithm.specs.Checks.Laws.{exactly, exactly-done, refuses, refused-given, answered-refused, append-refuses, refusing-append}
 use Rattle.hmac.specs.Hmac.{tagOf}
 use Rattle.hmac.specs.Keyed.{Message, soundKeyed, freshKeyed, zeroKeyed, afterKeyed, fullTag}
-use Rattle.hmac.specs.Calls.{allowed, startChecks, updateChecks, tagChecks, verifyChecks, messageChecks, startOf, updateOf, tagAnswer, verifyAnswer, tagMessageAnswer, verifyMessageAnswer}
+use Rattle.hmac.specs.Calls.{allowed, startChecks, updateChecks, lengthChecks, comparison, tagChecks, verifyChecks, fitChecks, takenChecks, messageChecks, verifyMessageChecks, startOf, updateOf, tagAnswer, verifyAnswer, tagMessageAnswer, verifyMessageAnswer}
 use Rattle.hmac.specs.declared.keyed.Keyed.{Keyed}
 use Rattle.hmac.specs.declared.keyed.Started.{Started}
 use Rattle.hmac.specs.declared.keyed.Fed.{Fed}
@@ -55,6 +55,10 @@ module _ (n : ℕ) (key : List ℕ) where
   unfolding startOf
   start-accepted h l = rw (h, le-leb (length key) mostBytes l)
 
+  pub start-number : startOf n key .number ≡ firstFailing (startChecks n key)
+  unfolding startOf
+  start-number = refl
+
 module _ (k : Keyed) (p : List ℕ) where
   pub update-not-sound : soundKeyed k ≡ false → updateOf k p ≡ fed stateNotSound k
   unfolding updateOf
@@ -73,40 +77,29 @@ module _ (k : Keyed) (p : List ℕ) where
   unfolding updateOf
   refused-same z = refused-given (updateChecks k p) (afterKeyed k p) k z
 
-module _ (k : Keyed) (t : ℕ) (out : List ℕ) where
-  pub tag-not-sound : soundKeyed k ≡ false → tagAnswer k t out ≡ written stateNotSound out
-  unfolding tagAnswer
-  tag-not-sound h = rw h
+-- tag and verify, by the number that the checks which they share gave
+module _ (k : Keyed) (t : ℕ) (bytes : List ℕ) where
+  module _ {r : ℕ} (e : r ≡ firstFailing (tagChecks k t bytes)) (refusal : r ≡ done → ⊥) where
+    pub tag-refused : tagAnswer k t bytes ≡ written r bytes
+    unfolding tagAnswer
+    tag-refused = answered-refused (tagChecks k t bytes) (take t (fullTag k)) bytes e refusal
 
-  pub tag-out-of-range : soundKeyed k ≡ true → allowed (k .hash) t ≡ false → tagAnswer k t out ≡ written tagLengthOutOfRange out
-  unfolding tagAnswer
-  tag-out-of-range h a = rw (h, a)
+    pub verify-refused : verifyAnswer k t bytes ≡ r
+    unfolding verifyAnswer
+    verify-refused = append-refuses (tagChecks k t bytes) (comparison bytes (take t (fullTag k))) (λ d. refusal (e ∙ d)) ∙ sym e
 
-  pub tag-wrong-size : soundKeyed k ≡ true → allowed (k .hash) t ≡ true → (length out ≡ t → ⊥) → tagAnswer k t out ≡ written wrongSize out
-  unfolding tagAnswer
-  tag-wrong-size h a n = rw (h, a, ne-eqb (length out) t n)
+  module _ (sound : soundKeyed k ≡ true) (asked : allowed (k .hash) t ≡ true) where
+    pub tag-wrong-size : (length bytes ≡ t → ⊥) → tagAnswer k t bytes ≡ written wrongSize bytes
+    unfolding tagAnswer
+    tag-wrong-size n = rw (sound, asked, ne-eqb (length bytes) t n)
 
-  pub tag-accepted : soundKeyed k ≡ true → allowed (k .hash) t ≡ true → length out ≡ t → tagAnswer k t out ≡ written done (take t (fullTag k))
-  unfolding tagAnswer
-  tag-accepted h a e = rw (h, a, eq-eqb (length out) t e)
+    pub tag-accepted : length bytes ≡ t → tagAnswer k t bytes ≡ written done (take t (fullTag k))
+    unfolding tagAnswer
+    tag-accepted e = rw (sound, asked, eq-eqb (length bytes) t e)
 
-module _ (k : Keyed) (t : ℕ) (presented : List ℕ) where
-  pub verify-not-sound : soundKeyed k ≡ false → verifyAnswer k t presented ≡ stateNotSound
-  unfolding verifyAnswer
-  verify-not-sound h = rw h
-
-  pub verify-out-of-range : soundKeyed k ≡ true → allowed (k .hash) t ≡ false → verifyAnswer k t presented ≡ tagLengthOutOfRange
-  unfolding verifyAnswer
-  verify-out-of-range h a = rw (h, a)
-
-  pub verify-wrong-size : soundKeyed k ≡ true → allowed (k .hash) t ≡ true → (length presented ≡ t → ⊥) → verifyAnswer k t presented ≡ wrongSize
-  unfolding verifyAnswer
-  verify-wrong-size h a n = rw (h, a, ne-eqb (length presented) t n)
-
-  pub verify-compared : soundKeyed k ≡ true → allowed (k .hash) t ≡ true → length presented ≡ t
-      → verifyAnswer k t presented ≡ cond (equal presented (take t (fullTag k))) done tagDiffers
-  unfolding verifyAnswer
-  verify-compared h a e = rw (h, a, eq-eqb (length presented) t e)
+    pub verify-compared : length bytes ≡ t → verifyAnswer k t bytes ≡ cond (equal bytes (take t (fullTag k))) done tagDiffers
+    unfolding verifyAnswer
+    verify-compared e = rw (sound, asked, eq-eqb (length bytes) t e)
 
 -- a message that a keyed state has taken is tagged and compared as the one-piece calls do it
 module _ {k : Keyed} {n : ℕ} {key m : List ℕ} (M : Message k n key m) (t : ℕ) where
@@ -114,46 +107,37 @@ module _ {k : Keyed} {n : ℕ} {key m : List ℕ} (M : Message k n key m) (t : �
   unfolding tagAnswer tagMessageAnswer
   message-tag out =
       rw (M .named, M .sound, le-leb (length key) mostBytes (M .key-fits), le-leb (length m) (mostBytes - blockOf (hashOf n)) (M .fits))
-      (λ i. answered (check (allowed (M .hash i) t) tagLengthOutOfRange ∷ check (eqb (length out) t) wrongSize ∷ []) (take t (M .tag i)) out)
+      (λ i. answered (lengthChecks (M .hash i) t out) (take t (M .tag i)) out)
 
   pub message-verify : (presented : List ℕ) → verifyAnswer k t presented ≡ verifyMessageAnswer n key m t presented
   unfolding verifyAnswer verifyMessageAnswer
   message-verify presented =
       rw (M .named, M .sound, le-leb (length key) mostBytes (M .key-fits), le-leb (length m) (mostBytes - blockOf (hashOf n)) (M .fits))
-      (λ i.
-      firstFailing
-      (check (allowed (M .hash i) t) tagLengthOutOfRange
-      ∷ check (eqb (length presented) t) wrongSize
-      ∷ check (equal presented (take t (M .tag i))) tagDiffers
-      ∷ []))
+      (λ i. firstFailing (lengthChecks (M .hash i) t presented ++ comparison presented (take t (M .tag i))))
 
--- the one-piece calls where an early check fails
-module _ (n : ℕ) (key m : List ℕ) (t : ℕ) where
-  pub tag-message-unknown : (out : List ℕ) → names n ≡ false → tagMessageAnswer n key m t out ≡ written unknownHash out
+-- the one-piece calls where the message is not taken
+module _ (n : ℕ) (key m : List ℕ) (t : ℕ) (bytes : List ℕ) where
+  module _ {r : ℕ} (e : r ≡ firstFailing (takenChecks n key m)) (refusal : r ≡ done → ⊥) where
+    refuses-first : (rest : List Check) → r ≡ firstFailing (takenChecks n key m ++ rest)
+    refuses-first rest = e ∙ sym (append-refuses (takenChecks n key m) rest (λ d. refusal (e ∙ d)))
+
+    pub tag-message-refused : tagMessageAnswer n key m t bytes ≡ written r bytes
+    unfolding tagMessageAnswer
+    tag-message-refused =
+        answered-refused (messageChecks n key m t bytes) (tagOf (hashOf n) key t m) bytes (refuses-first (lengthChecks (hashOf n) t bytes)) refusal
+
+    pub verify-message-refused : verifyMessageAnswer n key m t bytes ≡ r
+    unfolding verifyMessageAnswer
+    verify-message-refused = sym (refuses-first (lengthChecks (hashOf n) t bytes ++ comparison bytes (tagOf (hashOf n) key t m)))
+
+  pub tag-message-key : names n ≡ true → mostBytes < length key → tagMessageAnswer n key m t bytes ≡ written keyTooLong bytes
   unfolding tagMessageAnswer
-  tag-message-unknown out h = rw h
+  tag-message-key h l = rw (h, lt-leb (length key) mostBytes l)
 
-  pub tag-message-key : (out : List ℕ) → names n ≡ true → mostBytes < length key → tagMessageAnswer n key m t out ≡ written keyTooLong out
+  pub tag-message-too-long : names n ≡ true → length key ≤ mostBytes → mostBytes - blockOf (hashOf n) < length m
+      → tagMessageAnswer n key m t bytes ≡ written messageTooLong bytes
   unfolding tagMessageAnswer
-  tag-message-key out h l = rw (h, lt-leb (length key) mostBytes l)
-
-  pub tag-message-too-long : (out : List ℕ) → names n ≡ true → length key ≤ mostBytes → mostBytes - blockOf (hashOf n) < length m
-      → tagMessageAnswer n key m t out ≡ written messageTooLong out
-  unfolding tagMessageAnswer
-  tag-message-too-long out h l g = rw (h, le-leb (length key) mostBytes l, lt-leb (length m) (mostBytes - blockOf (hashOf n)) g)
-
-  pub verify-message-unknown : (presented : List ℕ) → names n ≡ false → verifyMessageAnswer n key m t presented ≡ unknownHash
-  unfolding verifyMessageAnswer
-  verify-message-unknown presented h = rw h
-
-  pub verify-message-key : (presented : List ℕ) → names n ≡ true → mostBytes < length key → verifyMessageAnswer n key m t presented ≡ keyTooLong
-  unfolding verifyMessageAnswer
-  verify-message-key presented h l = rw (h, lt-leb (length key) mostBytes l)
-
-  pub verify-message-too-long : (presented : List ℕ) → names n ≡ true → length key ≤ mostBytes → mostBytes - blockOf (hashOf n) < length m
-      → verifyMessageAnswer n key m t presented ≡ messageTooLong
-  unfolding verifyMessageAnswer
-  verify-message-too-long presented h l g = rw (h, le-leb (length key) mostBytes l, lt-leb (length m) (mostBytes - blockOf (hashOf n)) g)
+  tag-message-too-long h l g = rw (h, le-leb (length key) mostBytes l, lt-leb (length m) (mostBytes - blockOf (hashOf n)) g)
 
 -- each number comes back exactly when its check fails and every earlier one passes
 module _ (r : ℕ) (refusal : r ≡ done → ⊥) where
@@ -174,20 +158,35 @@ module _ (r : ℕ) (refusal : r ≡ done → ⊥) where
   verify-exactly k t presented = exactly (verifyChecks k t presented) r refusal
 
   pub tag-message-exactly : (n : ℕ) (key m : List ℕ) (t : ℕ) (out : List ℕ)
-      → tagMessageAnswer n key m t out .0 ≡ r ↔ Fail (messageChecks n key m t out []) r
+      → tagMessageAnswer n key m t out .0 ≡ r ↔ Fail (messageChecks n key m t out) r
   unfolding tagMessageAnswer
-  tag-message-exactly n key m t out = exactly (messageChecks n key m t out []) r refusal
+  tag-message-exactly n key m t out = exactly (messageChecks n key m t out) r refusal
 
   pub verify-message-exactly : (n : ℕ) (key m : List ℕ) (t : ℕ) (presented : List ℕ)
-      → verifyMessageAnswer n key m t presented ≡ r
-      ↔ Fail (messageChecks n key m t presented (check (equal presented (tagOf (hashOf n) key t m)) tagDiffers ∷ [])) r
+      → verifyMessageAnswer n key m t presented ≡ r ↔ Fail (verifyMessageChecks n key m t presented) r
   unfolding verifyMessageAnswer
-  verify-message-exactly n key m t presented = exactly _ r refusal
+  verify-message-exactly n key m t presented = exactly (verifyMessageChecks n key m t presented) r refusal
+
+-- no check has the number of a call that is done
+start-refusing : (n : ℕ) (key : List ℕ) → Refusing (startChecks n key)
+start-refusing n key = refuses _ _ (refuses _ _ none)
+
+length-refusing : (h : Hash) (t : ℕ) (bytes : List ℕ) → Refusing (lengthChecks h t bytes)
+length-refusing h t bytes = refuses _ _ (refuses _ _ none)
+
+pub tag-refusing : (k : Keyed) (t : ℕ) (bytes : List ℕ) → Refusing (tagChecks k t bytes)
+tag-refusing k t bytes = refuses _ _ (length-refusing (k .hash) t bytes)
+
+taken-refusing : (n : ℕ) (key m : List ℕ) → Refusing (takenChecks n key m)
+taken-refusing n key m = refusing-append (startChecks n key) (fitChecks n m) (start-refusing n key) (refuses _ _ none)
+
+message-refusing : (n : ℕ) (key m : List ℕ) (t : ℕ) (bytes : List ℕ) → Refusing (messageChecks n key m t bytes)
+message-refusing n key m t bytes = refusing-append (takenChecks n key m) _ (taken-refusing n key m) (length-refusing (hashOf n) t bytes)
 
 -- a call is done exactly when every check passes
 pub start-done : (n : ℕ) (key : List ℕ) → startOf n key .number ≡ done ↔ Pass (startChecks n key)
 unfolding startOf
-start-done n key = exactly-done (startChecks n key) (refuses _ _ (refuses _ _ none))
+start-done n key = exactly-done (startChecks n key) (start-refusing n key)
 
 pub update-done : (k : Keyed) (p : List ℕ) → updateOf k p .number ≡ done ↔ Pass (updateChecks k p)
 unfolding updateOf
@@ -195,24 +194,24 @@ update-done k p = exactly-done (updateChecks k p) (refuses _ _ (refuses _ _ none
 
 pub tag-done : (k : Keyed) (t : ℕ) (out : List ℕ) → tagAnswer k t out .0 ≡ done ↔ Pass (tagChecks k t out)
 unfolding tagAnswer
-tag-done k t out = exactly-done (tagChecks k t out) (refuses _ _ (refuses _ _ (refuses _ _ none)))
+tag-done k t out = exactly-done (tagChecks k t out) (tag-refusing k t out)
 
 pub verify-done : (k : Keyed) (t : ℕ) (presented : List ℕ) → verifyAnswer k t presented ≡ done ↔ Pass (verifyChecks k t presented)
 unfolding verifyAnswer
-verify-done k t presented = exactly-done (verifyChecks k t presented) (refuses _ _ (refuses _ _ (refuses _ _ (refuses _ _ none))))
+verify-done k t presented =
+    exactly-done (verifyChecks k t presented) (refusing-append (tagChecks k t presented) _ (tag-refusing k t presented) (refuses _ _ none))
 
 pub tag-message-done : (n : ℕ) (key m : List ℕ) (t : ℕ) (out : List ℕ)
-    → tagMessageAnswer n key m t out .0 ≡ done ↔ Pass (messageChecks n key m t out [])
+    → tagMessageAnswer n key m t out .0 ≡ done ↔ Pass (messageChecks n key m t out)
 unfolding tagMessageAnswer
-tag-message-done n key m t out =
-    exactly-done (messageChecks n key m t out []) (refuses _ _ (refuses _ _ (refuses _ _ (refuses _ _ (refuses _ _ none)))))
+tag-message-done n key m t out = exactly-done (messageChecks n key m t out) (message-refusing n key m t out)
 
 pub verify-message-done : (n : ℕ) (key m : List ℕ) (t : ℕ) (presented : List ℕ)
-    → verifyMessageAnswer n key m t presented ≡ done
-    ↔ Pass (messageChecks n key m t presented (check (equal presented (tagOf (hashOf n) key t m)) tagDiffers ∷ []))
+    → verifyMessageAnswer n key m t presented ≡ done ↔ Pass (verifyMessageChecks n key m t presented)
 unfolding verifyMessageAnswer
 verify-message-done n key m t presented =
-    exactly-done _ (refuses _ _ (refuses _ _ (refuses _ _ (refuses _ _ (refuses _ _ (refuses _ _ none))))))
+    exactly-done (verifyMessageChecks n key m t presented)
+    (refusing-append (messageChecks n key m t presented) _ (message-refusing n key m t presented) (refuses _ _ none))
 
 -- once no other check fails, verify says yes exactly to the tag
 pub says-yes : (a b : List ℕ) → cond (equal a b) done tagDiffers ≡ done ↔ (a ≡ b)

@@ -1,5 +1,5 @@
--- Laws of a run of pieces under a key: refused ones change nothing, and from a start tag and verify answer what the one-piece calls
--- answer for the bytes taken. Assumes nothing.
+-- Laws of a run of pieces under a key: those that fit lead to the keyed state after their bytes in one, refused ones change nothing,
+-- and from a start tag and verify answer what the one-piece calls answer for the bytes taken. Assumes nothing.
 use mathlib.Core.Path.{_≡_, sym, ap, subst, _∙_}
 use mathlib.Core.Bool.{true}
 use mathlib.Core.List.{List}

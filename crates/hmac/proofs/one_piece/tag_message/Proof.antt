@@ -1,23 +1,23 @@
 -- `hmac::one_piece::tag_message`: the message taken, then its tag. Assumes nothing.
-use mathlib.Core.Path.{_∙_}
+use mathlib.Core.Path.{sym, _∙_}
 use borrow.Author.Needs.{needs}
 use denote.Ref.{now}
-use Rattle.hmac.proofs.Messages.{refused-tag, whole-tag}
+use Rattle.hmac.specs.Calls.Laws.{message-tag, tag-message-refused}
 use Rattle.hmac.proofs.one_piece.tag_message.Statement.{statement}
 use Rattle.hmac.proofs.one_piece.tag_message.Tie as tie
 
 returns : tie.Need-returns
 returns c =
     let start = c .before .before .before .before .before in
-    refused-tag (start .args .number) (now (start .args .key)) (now (start .args .message)) (c .before .taken .ensures) (start .args .tag-length)
-    (now (start .args .out)) (c .if1 .taken)
+    sym (tag-message-refused (start .args .number) (now (start .args .key)) (now (start .args .message)) (start .args .tag-length) (now (start .args .out))
+    (c .before .taken .ensures .number) (c .if1 .taken))
 
 returns-2 : tie.Need-returns-2
 returns-2 c =
     let start = c .before .before .before .before .before .before .before .before .before .before in
     c .before .before .tag .ensures
-    ∙ whole-tag (start .args .number) (now (start .args .key)) (now (start .args .message)) (c .before .before .before .before .before .before .taken .ensures)
-    (start .args .tag-length) (now (start .args .out)) (c .before .before .before .before .before .if1 .left)
+    ∙ message-tag (c .before .before .before .before .before .before .taken .ensures .whole (c .before .before .before .before .before .if1 .left))
+    (start .args .tag-length) (now (start .args .out))
 
 pub tag-message-spec : {M : Type 1} → statement M
 tag-message-spec =
