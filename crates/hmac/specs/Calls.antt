@@ -53,8 +53,8 @@ abbrev pub lengthChecks : Hash → ℕ → List ℕ → List Check
 lengthChecks h t bytes = check (allowed h t) tagLengthOutOfRange ∷ check (eqb (length bytes) t) wrongSize ∷ []
 
 -- what is presented, compared with a tag
-abbrev pub comparison : List ℕ → List ℕ → List Check
-comparison presented tag = check (equal presented tag) tagDiffers ∷ []
+abbrev pub compareChecks : List ℕ → List ℕ → List Check
+compareChecks presented tag = check (equal presented tag) tagDiffers ∷ []
 
 -- tag(keyed, tag_length, out)
 abbrev pub tagChecks : Keyed → ℕ → List ℕ → List Check
@@ -68,7 +68,7 @@ TagOutcome k t out r after = _≡_ {A = ℕ × List ℕ} (r, after) (tagAnswer k
 
 -- verify(keyed, tag_length, presented): the checks of the tag, and then the comparison
 abbrev pub verifyChecks : Keyed → ℕ → List ℕ → List Check
-verifyChecks k t presented = tagChecks k t presented ++ comparison presented (take t (fullTag k))
+verifyChecks k t presented = tagChecks k t presented ++ compareChecks presented (take t (fullTag k))
 
 pub verifyAnswer : Keyed → ℕ → List ℕ → ℕ
 verifyAnswer k t presented = firstFailing (verifyChecks k t presented)
@@ -96,7 +96,7 @@ TagMessageOutcome n key m t out r after = _≡_ {A = ℕ × List ℕ} (r, after)
 
 -- verify_message(number, key, message, tag_length, presented): the checks of the tag, and then the comparison
 abbrev pub verifyMessageChecks : ℕ → List ℕ → List ℕ → ℕ → List ℕ → List Check
-verifyMessageChecks n key m t presented = messageChecks n key m t presented ++ comparison presented (tagOf (hashOf n) key t m)
+verifyMessageChecks n key m t presented = messageChecks n key m t presented ++ compareChecks presented (tagOf (hashOf n) key t m)
 
 pub verifyMessageAnswer : ℕ → List ℕ → List ℕ → ℕ → List ℕ → ℕ
 verifyMessageAnswer n key m t presented = firstFailing (verifyMessageChecks n key m t presented)

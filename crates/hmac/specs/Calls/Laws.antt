@@ -19,7 +19,7 @@ use Rattle.algorithm.specs.Checks.Refusing.{none}
 use Rattle.algorithm.specs.Checks.Laws.{exactly, exactly-done, refuses, refused-given, answered-refused, append-refuses, refusing-append}
 use Rattle.hmac.specs.Hmac.{tagOf}
 use Rattle.hmac.specs.Keyed.{Message, soundKeyed, freshKeyed, zeroKeyed, afterKeyed, fullTag}
-use Rattle.hmac.specs.Calls.{allowed, startChecks, updateChecks, lengthChecks, comparison, tagChecks, verifyChecks, fitChecks, takenChecks, messageChecks, verifyMessageChecks, startOf, updateOf, tagAnswer, verifyAnswer, tagMessageAnswer, verifyMessageAnswer}
+use Rattle.hmac.specs.Calls.{allowed, startChecks, updateChecks, lengthChecks, compareChecks, tagChecks, verifyChecks, fitChecks, takenChecks, messageChecks, verifyMessageChecks, startOf, updateOf, tagAnswer, verifyAnswer, tagMessageAnswer, verifyMessageAnswer}
 use Rattle.hmac.specs.declared.keyed.Keyed.{Keyed}
 use Rattle.hmac.specs.declared.keyed.Started.{Started}
 use Rattle.hmac.specs.declared.keyed.Fed.{Fed}
@@ -86,7 +86,7 @@ module _ (k : Keyed) (t : ℕ) (bytes : List ℕ) where
 
     pub verify-refused : verifyAnswer k t bytes ≡ r
     unfolding verifyAnswer
-    verify-refused = append-refuses (tagChecks k t bytes) (comparison bytes (take t (fullTag k))) (λ d. refusal (e ∙ d)) ∙ sym e
+    verify-refused = append-refuses (tagChecks k t bytes) (compareChecks bytes (take t (fullTag k))) (λ d. refusal (e ∙ d)) ∙ sym e
 
   module _ (sound : soundKeyed k ≡ true) (asked : allowed (k .hash) t ≡ true) where
     pub tag-wrong-size : (length bytes ≡ t → ⊥) → tagAnswer k t bytes ≡ written wrongSize bytes
@@ -113,7 +113,7 @@ module _ {k : Keyed} {n : ℕ} {key m : List ℕ} (M : Message k n key m) (t : �
   unfolding verifyAnswer verifyMessageAnswer
   message-verify presented =
       rw (M .named, M .sound, le-leb (length key) mostBytes (M .key-fits), le-leb (length m) (mostBytes - blockOf (hashOf n)) (M .fits))
-      (λ i. firstFailing (lengthChecks (M .hash i) t presented ++ comparison presented (take t (M .tag i))))
+      (λ i. firstFailing (lengthChecks (M .hash i) t presented ++ compareChecks presented (take t (M .tag i))))
 
 -- the one-piece calls where the message is not taken
 module _ (n : ℕ) (key m : List ℕ) (t : ℕ) (bytes : List ℕ) where
@@ -128,7 +128,7 @@ module _ (n : ℕ) (key m : List ℕ) (t : ℕ) (bytes : List ℕ) where
 
     pub verify-message-refused : verifyMessageAnswer n key m t bytes ≡ r
     unfolding verifyMessageAnswer
-    verify-message-refused = sym (refuses-first (lengthChecks (hashOf n) t bytes ++ comparison bytes (tagOf (hashOf n) key t m)))
+    verify-message-refused = sym (refuses-first (lengthChecks (hashOf n) t bytes ++ compareChecks bytes (tagOf (hashOf n) key t m)))
 
   pub tag-message-key : names n ≡ true → mostBytes < length key → tagMessageAnswer n key m t bytes ≡ written keyTooLong bytes
   unfolding tagMessageAnswer
