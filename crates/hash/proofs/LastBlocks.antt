@@ -1,74 +1,81 @@
--- Laws of the end as the code makes it: where the padding ends, the last blocks, and words written one after the other.
+-- Laws of the end as the code makes it: where the padding ends, the last blocks, and the digest of the last words.
 -- Assumes nothing.
 use mathlib.Core.Path.{_≡_, refl, sym, ap, _∙_}
 use mathlib.Core.List.{List, [], _∷_, _++_, append-assoc, append-nil}
-use Prim.Native.Nat.{ℕ, suc, _+_, _-_, _*_, _/_, _%_, _^_, _≤_, _<_}
-use native.Mathlib.Nat.{zero-mul, div-eq-of-lt, le-refl}
+use Prim.Native.Nat.{ℕ, suc, _+_, _-_, _*_, _%_, _^_, _≤_, _<_, zero-le}
+use native.Mathlib.Nat.{div-eq-of-lt, mul-le-mul-right}
 use native.Mathlib.Numerals.{add-one}
+use native.Mathlib.Decide.{decLe}
 use native.Mathlib.Omega.{arith}
 use lib.ListN.{length, getD, take, drop, set, replicate, length-append, length-replicate, replicate-append-replicate}
-use lib.Seq.{take-all, take-suc, take-append-add, set-at, paste, length-paste}
+use lib.Seq.{take-all, take-suc, take-append-add, take-append-seam, take-length, drop-append-add, set-at, paste, length-take-le}
+use Rattle.octets.specs.Copy.{over}
+use Rattle.octets.specs.Every.Laws.{drop-zeros}
+use Rattle.octets.specs.Zeros.{zerosTo}
+use Rattle.octets.specs.Zeros.Laws.{over-buffer, zeros-length}
 use Rattle.octets.specs.Number.{bytes}
 use Rattle.octets.specs.Number.Laws.{bytes-length, bytes-add, bytes-zero, bytes-last}
 use Rattle.octets.specs.Parts.{part-all, take-pasted, paste-zeros, take-replicate}
 use Rattle.algorithm.specs.declared.hashes.Hash.{Hash}
-use Rattle.algorithm.specs.declared.hashes.Hash.the-variants.{Sha256, Sha512}
-use Rattle.algorithm.specs.Hashes.{blockOf, sizeOf}
+use Rattle.algorithm.specs.Hashes.{sizeOf}
 use Rattle.algorithm.specs.Refusals.{mostBytes}
-use Rattle.hash.specs.Description.{describe, narrow, wide}
+use Rattle.hash.specs.Description.{Core, describe}
 use Rattle.hash.specs.Sha2.{wordSize, blockSize, fieldSize, zeros, lengthField, padding, spell, keep}
 use Rattle.hash.specs.Sha2.Laws.{spell-length}
-use Rattle.hash.specs.Digest.Laws.{kept-is, size-is}
-use Rattle.hash.specs.State.{heldOf, waitingOf, wordsOf, lastWords}
+use Rattle.hash.specs.Sha2.Padding.{zeros-after, zeros-rest}
+use Rattle.hash.specs.Digest.Laws.{described}
+use Rattle.hash.specs.State.{places, heldOf, waitingOf, wordsOf, lastWords}
+use Rattle.hash.specs.State.Laws.{held-less, held-most}
 use Rattle.hash.specs.Inside.{paddedEnd}
 use Rattle.hash.specs.declared.state.State.{State}
 
--- the sizes that the code computes with
-pub word-most : (h : Hash) → wordSize (describe h .core) ≤ 8
-unfolding describe narrow wide
-word-most Sha256 = omega arith
-word-most Sha512 = omega arith
+-- of a number that j bytes hold, the bytes before them are zeros
+bytes-front : (k j n : ℕ) → n < 256 ^ j → bytes (k + j) n ≡ replicate k 0 ++ bytes j n
+bytes-front k j n h =
+    bytes-add k j n ∙ ap (λ (i : ℕ). bytes k i ++ bytes j n) (div-eq-of-lt h) ∙ ap (λ (r : List ℕ). r ++ bytes j n) (bytes-zero k)
 
-pub field-most : (h : Hash) → fieldSize (describe h .core) ≤ 16
-unfolding fieldSize describe narrow wide
-field-most Sha256 = omega arith
-field-most Sha512 = omega arith
+-- over any core whose words have four to eight bytes
+module _ (C : Core) (least : 4 ≤ wordSize C) (most : wordSize C ≤ 8) where
+  -- a block has a byte, and the length field has eight bytes and fits it
+  sizes : (0 < blockSize C) × (8 ≤ fieldSize C) × (fieldSize C ≤ blockSize C) × (blockSize C ≤ 128)
+  unfolding blockSize fieldSize
+  sizes = (omega arith, omega arith, omega arith, omega arith)
 
--- the padding ends at one block or at two
-pub end-one : (h : Hash) (at : ℕ) → at < blockOf h → at + 1 + fieldSize (describe h .core) ≤ blockOf h → blockOf h ≡ paddedEnd h at
-unfolding fieldSize zeros blockSize describe narrow wide
-end-one Sha256 at p q = omega arith
-end-one Sha512 at p q = omega arith
+  -- the padding ends at one block or at two
+  pub end-one : (at : ℕ) → at + 1 + fieldSize C ≤ blockSize C → blockSize C ≡ paddedEnd C at
+  end-one at h =
+      let x : ℕ = at + 1 + fieldSize C in
+      omega (arith, zeros-after C (sizes .0) at 0 x (omega arith) (omega arith) h)
 
-pub end-two : (h : Hash) (at : ℕ) → at < blockOf h → blockOf h < at + 1 + fieldSize (describe h .core) → blockOf h + blockOf h ≡ paddedEnd h at
-unfolding fieldSize zeros blockSize describe narrow wide
-end-two Sha256 at p q = omega arith
-end-two Sha512 at p q = omega arith
+  pub end-two : (at : ℕ) → at < blockSize C → blockSize C < at + 1 + fieldSize C → blockSize C + blockSize C ≡ paddedEnd C at
+  end-two at p h =
+      let r : ℕ = at + 1 + fieldSize C - blockSize C in
+      let s = sizes in
+      omega (arith, zeros-after C (sizes .0) at 1 r (omega arith) (omega arith) (omega arith))
 
--- it has room for the mark and eight bytes, and two of the largest blocks have room for it
-pub end-range : (h : Hash) (at : ℕ) → at < blockOf h → (at + 9 ≤ paddedEnd h at) × (paddedEnd h at ≤ 256)
-unfolding fieldSize zeros blockSize describe narrow wide
-end-range Sha256 at p = (omega arith, omega arith)
-end-range Sha512 at p = (omega arith, omega arith)
+  -- it has room for the mark and eight bytes, and two of the largest blocks have room for it
+  end-range : (at : ℕ) → at < blockSize C → (at + 9 ≤ paddedEnd C at) × (paddedEnd C at ≤ 256)
+  end-range at p =
+      let s = sizes in
+      elim (decLe (at + 1 + fieldSize C) (blockSize C)) [
+        | yes l ↦ (omega arith, omega (arith, end-one at l))
+        | no l ↦ (omega arith, omega (arith, end-two at p (omega arith)))
+      ]
 
--- the padding, with the length's last eight bytes written and zeros for those before them
-padding-is : (h : Hash) (n : ℕ) → n ≤ mostBytes
-    → 128 ∷ replicate (paddedEnd h (n % blockOf h) - (n % blockOf h + 9)) 0 ++ bytes 8 (8 * n) ≡ padding (describe h .core) n
-unfolding padding lengthField fieldSize zeros blockSize describe narrow wide
-padding-is Sha256 n l =
-    let e : paddedEnd Sha256 (n % 64) - (n % 64 + 9) ≡ (64 - (n + 1 + 8) % 64) % 64 = omega arith in
-    ap (λ (k : ℕ). 128 ∷ replicate k 0 ++ bytes 8 (8 * n)) e
-padding-is Sha512 n l =
-    let k : ℕ = (128 - (n + 1 + 16) % 128) % 128 in
-    let e : paddedEnd Sha512 (n % 128) - (n % 128 + 9) ≡ k + 8 = omega arith in
-    let z : 8 * n / 256 ^ 8 ≡ 0 = div-eq-of-lt (omega arith) in
-    let b : bytes 16 (8 * n) ≡ replicate 8 0 ++ bytes 8 (8 * n) =
-    bytes-add 8 8 (8 * n) ∙ ap (λ (i : ℕ). bytes 8 i ++ bytes 8 (8 * n)) z ∙ ap (λ (r : List ℕ). r ++ bytes 8 (8 * n)) (bytes-zero 8)
-    in
-    ap (λ (i : ℕ). 128 ∷ replicate i 0 ++ bytes 8 (8 * n)) e
-    ∙ ap (λ (r : List ℕ). 128 ∷ r ++ bytes 8 (8 * n)) (sym (replicate-append-replicate k 8 0))
-    ∙ append-assoc (128 ∷ replicate k 0) (replicate 8 0) (bytes 8 (8 * n))
-    ∙ ap (λ (r : List ℕ). 128 ∷ replicate k 0 ++ r) (sym b)
+  -- the padding, with the length's last eight bytes written and zeros for those before them
+  padding-is : (n : ℕ) → n ≤ mostBytes
+      → 128 ∷ replicate (paddedEnd C (n % blockSize C) - (n % blockSize C + 9)) 0 ++ bytes 8 (8 * n) ≡ padding C n
+  unfolding padding lengthField
+  padding-is n l =
+      let z : ℕ = zeros C n in
+      let k : ℕ = fieldSize C - 8 in
+      let s = sizes in
+      let e : paddedEnd C (n % blockSize C) - (n % blockSize C + 9) ≡ z + k = omega (arith, zeros-rest C (sizes .0) n) in
+      let f : k + 8 ≡ fieldSize C = omega arith in
+      ap (λ (i : ℕ). 128 ∷ replicate i 0 ++ bytes 8 (8 * n)) e
+      ∙ ap (λ (r : List ℕ). 128 ∷ r ++ bytes 8 (8 * n)) (sym (replicate-append-replicate z k 0))
+      ∙ append-assoc (128 ∷ replicate z 0) (replicate k 0) (bytes 8 (8 * n))
+      ∙ ap (λ (r : List ℕ). 128 ∷ replicate z 0 ++ r) (sym (bytes-front k 8 (8 * n) (omega arith)) ∙ ap (λ (i : ℕ). bytes i (8 * n)) f)
 
 -- the last blocks: zeros, the waiting bytes a, the mark behind them, and the length b at the end
 pub last-is : (a b x y : List ℕ) (at end : ℕ) → length a ≡ at → length b ≡ 8 → at + 9 ≤ end → end ≤ 256
@@ -92,13 +99,23 @@ last-is a b x y at end la lb lo hi ex ey =
     in
     e₅ ∙ ap (λ (r : List ℕ). r ++ b) e₇ ∙ append-assoc a (128 ∷ replicate k 0) b
 
+-- the sizes that a state has them with
+pub last-range : (s : State) (at end : ℕ) → at ≡ heldOf s → end ≡ paddedEnd (describe (s .hash) .core) at
+    → (at ≤ places) × (at + 9 ≤ end) × (end ≤ 256)
+last-range s at end ea ee =
+    let d = described (s .hash) in
+    let h = held-less s in
+    let r = end-range (describe (s .hash) .core) (d .word-least) (d .word-most) at (omega arith) in
+    (omega (arith, held-most s), omega arith, omega arith)
+
 -- the words after them
-pub last-words-is : (s : State) (at end : ℕ) (l : List ℕ) → s .count ≤ mostBytes → at ≡ heldOf s → end ≡ paddedEnd (s .hash) at
+pub last-words-is : (s : State) (at end : ℕ) (l : List ℕ) → s .count ≤ mostBytes → at ≡ heldOf s → end ≡ paddedEnd (describe (s .hash) .core) at
     → l ≡ take at (s .waiting) ++ (128 ∷ replicate (end - (at + 9)) 0 ++ bytes 8 (8 * s .count))
     → wordsOf (s .hash) (s .words) l ≡ lastWords s
 last-words-is s at end l h ea ee el =
-    ap (wordsOf (s .hash) (s .words))
-    (el ∙ rw (ee, ea) (ap (λ (r : List ℕ). waitingOf s ++ r) (padding-is (s .hash) (s .count) h)))
+    let d = described (s .hash) in
+    let p = padding-is (describe (s .hash) .core) (d .word-least) (d .word-most) (s .count) h in
+    ap (wordsOf (s .hash) (s .words)) (el ∙ rw (ee, ea) (ap (λ (r : List ℕ). waitingOf s ++ r) (rw (d .block-is) at p)))
 
 -- words as bytes, one word more
 spell-append : (k : ℕ) (a b : List ℕ) → spell k (a ++ b) ≡ spell k a ++ spell k b
@@ -114,37 +131,57 @@ spell-next k ws i h =
     ∙ spell-append k (take i ws) (getD ws i 0 ∷ [])
     ∙ ap (λ (r : List ℕ). spell k (take i ws) ++ r) (append-nil (bytes k (getD ws i 0)))
 
-pub spell-none : (k : ℕ) (l : List ℕ) → take (0 * k) l ≡ spell k []
-unfolding spell
-spell-none k l = ap (λ (n : ℕ). take n l) (zero-mul k)
-
 -- the last k of a word's eight bytes, as a loan of them has it
 pub word-part : (k x : ℕ) {b : List ℕ} → k ≤ 8 → b ≡ bytes 8 x → take (8 - (8 - k)) (drop (8 - k) b) ≡ bytes k x
 word-part k x {b} h e =
     part-all b 8 (8 - k) (ap length e ∙ bytes-length 8 x) ∙ ap (drop (8 - k)) e ∙ bytes-last 8 k x h
 
--- a turn of the loop that writes them
-pub spell-turn : (out ws p : List ℕ) (i k : ℕ) {q : List ℕ} → i < length ws → i * k + k ≤ length out → q ≡ bytes k (getD ws i 0)
-    → take (i * k) out ≡ spell k (take i ws) → p ≡ paste out (i * k) q (length q)
-    → (length p ≡ length out) × (take ((i + 1) * k) p ≡ spell k (take (i + 1) ws))
-spell-turn out ws p i k {q} hi room eq et ep =
-    let lq : length q ≡ k = ap length eq ∙ bytes-length k (getD ws i 0) in
-    let r : i * k + length q ≤ length out = omega arith in
-    let m : (i + 1) * k ≡ i * k + length q = omega arith in (
-      ap length ep ∙ length-paste out (i * k) q (length q) r (le-refl (length q)),
-      ap (λ (n : ℕ). take n p) m
-          ∙ ap (take (i * k + length q)) ep
-          ∙ take-pasted out (i * k) q r
-          ∙ (λ j. et j ++ eq j)
-          ∙ sym (spell-next k ws i hi),
-    )
+-- bytes written after bytes that zeros follow
+paste-more : (n : ℕ) (l q : List ℕ) → paste (zerosTo n l) (length l) q (length q) ≡ zerosTo n (l ++ q)
+paste-more n l q =
+    let z : List ℕ = replicate (n - length l) 0 in
+    let e : n - length l - length q ≡ n - length (l ++ q) = omega (arith, length-append l q) in
+    let d : drop (length l + length q) (l ++ z) ≡ replicate (n - length (l ++ q)) 0 =
+    drop-append-add l z (length q) ∙ drop-zeros (length q) (n - length l) ∙ ap (λ (k : ℕ). replicate k 0) e
+    in
+    λ i. (take-append-seam l z i ++ take-length q i) ++ d i
 
--- eight words are a digest of its full size
-pub digest-words : (h : Hash) → (wordSize (describe h .core) ≤ 8) × (sizeOf h ≡ 8 * wordSize (describe h .core))
-digest-words h = (word-most h, sym (size-is h))
+-- how far the words are written: the first i of them, k bytes each, over zeros
+pub record Spelled (k : ℕ) (ws out : List ℕ) (i : ℕ) : Type 0 where
+  pub within : i ≤ 8
+  pub size : length out ≡ 64
+  pub is : out ≡ zerosTo 64 (spell k (take i ws))
 
-pub keep-all : (h : Hash) (ws : List ℕ) → length ws ≡ 8 → spell (wordSize (describe h .core)) ws ≡ keep (describe h) ws
+pub start : (k : ℕ) (ws : List ℕ) → Spelled k ws (replicate 64 0) 0
+unfolding spell
+start k ws = record { within = zero-le; size = refl; is = refl }
+
+module _ (k : ℕ) (ws : List ℕ) (small : k ≤ 8) (eight : length ws ≡ 8) where
+  written : (i : ℕ) → i ≤ 8 → length (spell k (take i ws)) ≡ i * k
+  written i h = spell-length k (take i ws) ∙ ap (λ (n : ℕ). n * k) (length-take-le i ws (omega arith))
+
+  pub more : (out p q : List ℕ) (i : ℕ) → Spelled k ws out i → i < 8 → q ≡ bytes k (getD ws i 0) → p ≡ paste out (i * k) q (length q)
+      → Spelled k ws p (i + 1)
+  more out p q i c h eq ep =
+      let l : List ℕ = spell k (take i ws) in
+      let e : p ≡ zerosTo 64 (spell k (take (i + 1) ws)) =
+      ep
+      ∙ (λ j. paste (c .is j) (sym (written i (omega arith)) j) q (length q))
+      ∙ paste-more 64 l q
+      ∙ ap (zerosTo 64) (ap (λ (r : List ℕ). l ++ r) eq ∙ sym (spell-next k ws i (omega arith)))
+      in
+      let n : length (spell k (take (i + 1) ws)) ≤ 64 = omega (arith, written (i + 1) (omega arith), mul-le-mul-right k h) in
+      record { within = omega arith; size = ap length e ∙ zeros-length 64 (spell k (take (i + 1) ws)) n; is = e }
+
+  pub all : (out : List ℕ) (i : ℕ) → Spelled k ws out i → i ≡ 8 → out ≡ zerosTo 64 (spell k ws)
+  all out i c e = c .is ∙ ap (λ (l : List ℕ). zerosTo 64 (spell k l)) (take-all i ws (omega arith))
+
+-- what the output takes of them is the digest
+pub kept-over : (h : Hash) (ws out : List ℕ) → length ws ≡ 8 → length out ≡ sizeOf h
+    → over (zerosTo 64 (spell (wordSize (describe h .core)) ws)) out ≡ keep (describe h) ws
 unfolding keep
-keep-all h ws e =
+kept-over h ws out e n =
     let w : ℕ = wordSize (describe h .core) in
-    sym (take-all (describe h .kept) (spell w ws) (omega (arith, spell-length w ws ∙ ap (λ (n : ℕ). n * w) e, size-is h, kept-is h)))
+    let d = described h in
+    let l : length (spell w ws) ≡ 8 * w = spell-length w ws ∙ ap (λ (n : ℕ). n * w) e in
+    over-buffer 64 (describe h .kept) (spell w ws) out (n ∙ sym (d .kept-is)) (omega arith) (omega arith)

@@ -4,10 +4,9 @@ use mathlib.Core.Bool.{true}
 use mathlib.Core.List.{List}
 use Prim.Native.Nat.{ℕ, _+_, _≤_}
 use lib.ListN.{length}
-use Rattle.algorithm.specs.declared.hashes.Hash.{Hash}
 use Rattle.algorithm.specs.Hashes.{blockOf}
 use Rattle.algorithm.specs.Refusals.{mostBytes}
-use Rattle.hash.specs.Description.{describe}
+use Rattle.hash.specs.Description.{Core}
 use Rattle.hash.specs.Sha2.{zeros, fieldSize}
 use Rattle.hash.specs.State.{heldOf, fit, soundOf}
 use Rattle.hash.specs.declared.state.State.{State}
@@ -34,5 +33,5 @@ pub record Ends (s : State) : Type 0 where
   pub words : fit (s .hash) (s .words) ≡ true
 
 -- where the padding ends behind `at` waiting bytes
-abbrev pub paddedEnd : Hash → ℕ → ℕ
-paddedEnd h at = at + 1 + zeros (describe h .core) at + fieldSize (describe h .core)
+abbrev pub paddedEnd : Core → ℕ → ℕ
+paddedEnd C at = at + 1 + zeros C at + fieldSize C

@@ -2,11 +2,12 @@
 ghost use mathlib.Core.Path.{_≡_};
 ghost use mathlib.Core.List.{_++_, _∷_};
 ghost use Prim.Native.Nat.{_+_, _-_, _*_, _≤_, _<_};
-ghost use lib.ListN.{length, take, replicate};
+ghost use lib.ListN.{take, replicate};
 ghost use Rattle.octets.specs.Number.{bytes};
+ghost use Rattle.octets.specs.Zeros.{zerosTo};
 ghost use Rattle.algorithm.specs.Hashes.{blockOf};
 ghost use Rattle.hash.specs.Description.{describe};
-ghost use Rattle.hash.specs.Sha2.{wordSize, fieldSize, spell};
+ghost use Rattle.hash.specs.Sha2.{wordSize, spell};
 ghost use Rattle.hash.specs.State.{places, lastWords};
 ghost use Rattle.hash.specs.Calls.{FinishOutcome};
 ghost use Rattle.hash.specs.Inside.{paddedEnd, Ends};
@@ -14,33 +15,20 @@ use crate::state::PLACES;
 use crate::state::State;
 use algorithm::Hash;
 
-// The bytes of a word.
+// The bytes of a word, of which a block has sixteen.
 fn word_size(hash: Hash) -> usize
     ensures { λ r. ⌜ r ≡ wordSize (describe hash .core) ⌝ }
 {
-    match hash {
-        Hash::Sha256 => 4,
-        Hash::Sha512 => 8,
-    }
+    algorithm::block_size(hash) / 16
 }
 
-// The bytes of the length field.
-fn field_size(hash: Hash) -> usize
-    ensures { λ r. ⌜ r ≡ fieldSize (describe hash .core) ⌝ }
-{
-    match hash {
-        Hash::Sha256 => 8,
-        Hash::Sha512 => 16,
-    }
-}
-
-// Where the padded rest ends: at one block or at two.
+// Where the padded rest ends: at one block or at two. The length field has two words.
 fn padded_end(hash: Hash, at: usize) -> usize
     requires { ⌜ at < blockOf hash ⌝ }
-    ensures { λ r. ⌜ r ≡ paddedEnd hash at ⌝ }
+    ensures { λ r. ⌜ r ≡ paddedEnd (describe hash .core) at ⌝ }
 {
     let size = algorithm::block_size(hash);
-    let field = field_size(hash);
+    let field = 2 * word_size(hash);
     if at + 1 + field <= size {
         return size;
     }
@@ -75,19 +63,20 @@ fn last_words(state: State) -> [u64; 8]
     crate::blocks::words_after(hash, words, &last[..end])
 }
 
-// The bytes of the words, `size` for each, into a slice that they fill.
-fn put_words(out: &mut [u8], size: usize, words: [u64; 8])
-    requires { ⌜ (size ≤ 8) × (length (now out) ≡ 8 * size) ⌝ }
-    ensures { λ _. ⌜ now (out .exit) ≡ spell size words ⌝ }
+// The bytes of the words, `size` for each, with zeros after them.
+fn spelled(size: usize, words: [u64; 8]) -> [u8; 64]
+    requires { ⌜ size ≤ 8 ⌝ }
+    ensures { λ r. ⌜ r ≡ zerosTo 64 (spell size words) ⌝ }
 {
+    let mut out = [0u8; 64];
     let from = 8 - size;
     let mut i: usize = 0;
     while i < 8 {
         let word = octets::eight_bytes(words[i]);
-        let at = i * size;
-        crate::place::put_at(out, at, &word[from..]);
+        crate::place::put_at(&mut out, i * size, &word[from..]);
         i += 1;
     }
+    out
 }
 
 // The digest of the bytes taken so far, which does not use the state up; 10 where the state is not sound, 6 where the output is
@@ -106,6 +95,7 @@ pub fn finish(state: State, out: &mut [u8]) -> u32
     }
     let words = last_words(state);
     let word = word_size(hash);
-    put_words(out, word, words);
+    let bytes = spelled(word, words);
+    octets::copy_prefix(&bytes, out);
     algorithm::DONE
 }

@@ -1,16 +1,18 @@
 -- Laws of the hashes that we make, for the layers above: their sizes are those of the algorithm crate, a digest has its size,
 -- the padded blocks are counted by the length and shared by no two messages. Assumes nothing.
 use mathlib.Core.Path.{_≡_, refl, ap, subst, _∙_}
+use mathlib.Core.Bool.{true}
 use mathlib.Core.List.{List, [], _∷_, foldl}
-use Prim.Native.Nat.{ℕ, _+_, _*_, _/_, _<_}
+use Prim.Native.Nat.{ℕ, _+_, _*_, _/_, _^_, _≤_, _<_}
 use native.Mathlib.Omega.{arith}
-use lib.Dec.{lit<}
+use lib.Dec.{ltb, lit≤}
 use lib.ListN.{length}
 use lib.Seq.{length-take-le}
+use Rattle.octets.specs.Every.{every}
 use Rattle.algorithm.specs.declared.hashes.Hash.{Hash}
 use Rattle.algorithm.specs.declared.hashes.Hash.the-variants.{Sha256, Sha512}
 use Rattle.algorithm.specs.Hashes.{blockOf, sizeOf}
-use Rattle.hash.specs.Table.{first64, first32}
+use Rattle.hash.specs.Table.{first64, first32, upper}
 use Rattle.hash.specs.Description.{Core, describe, narrow, wide}
 use Rattle.hash.specs.Blocks.Laws.{Sized}
 use Rattle.hash.specs.Sha2.{wordSize, blockSize, fieldSize, zeros, step, spell, keep, digest, digestFrom, blocks}
@@ -18,31 +20,27 @@ use Rattle.hash.specs.Sha2.Laws.{step-length, spell-length}
 use Rattle.hash.specs.Sha2.Padding.{blocks-count, blocks-sized, blocks-injective}
 use Rattle.hash.specs.Digest.{blocksOf, fromBlocks, digestOf, blockCountOf}
 
--- the sizes of the description are those of the algorithm crate
-pub block-is : (h : Hash) → blockSize (describe h .core) ≡ blockOf h
-unfolding blockSize describe narrow wide
-block-is Sha256 = refl
-block-is Sha512 = refl
+-- what we know of the description of a hash: its sizes are those of the algorithm crate, a word has four to eight bytes, no more
+-- is kept than eight words have, and the first words are eight that fit
+pub record Described (h : Hash) : Type 0 where
+  pub block-is : blockSize (describe h .core) ≡ blockOf h
+  pub kept-is : describe h .kept ≡ sizeOf h
+  pub word-least : 4 ≤ wordSize (describe h .core)
+  pub word-most : wordSize (describe h .core) ≤ 8
+  pub kept-most : describe h .kept ≤ 8 * wordSize (describe h .core)
+  pub first-eight : length (describe h .first) ≡ 8
+  pub first-fits : every (λ x. ltb x (2 ^ (describe h .core .width))) (describe h .first) ≡ true
 
-pub kept-is : (h : Hash) → describe h .kept ≡ sizeOf h
-unfolding describe
-kept-is Sha256 = refl
-kept-is Sha512 = refl
-
-pub size-is : (h : Hash) → 8 * wordSize (describe h .core) ≡ sizeOf h
-unfolding describe narrow wide
-size-is Sha256 = refl
-size-is Sha512 = refl
-
-pub first-length : (h : Hash) → length (describe h .first) ≡ 8
-unfolding describe first32 first64
-first-length Sha256 = refl
-first-length Sha512 = refl
+pub described : (h : Hash) → Described h
+unfolding blockSize every describe narrow wide first32 first64 upper
+described Sha256 =
+    record { block-is = refl; kept-is = refl; word-least = lit≤ tt; word-most = lit≤ tt; kept-most = lit≤ tt; first-eight = refl; first-fits = refl }
+described Sha512 =
+    record { block-is = refl; kept-is = refl; word-least = lit≤ tt; word-most = lit≤ tt; kept-most = lit≤ tt; first-eight = refl; first-fits = refl }
 
 positive : (h : Hash) → 0 < blockSize (describe h .core)
-unfolding blockSize describe narrow wide
-positive Sha256 = lit< tt
-positive Sha512 = lit< tt
+unfolding blockSize
+positive h = omega (arith, described h .word-least)
 
 -- eight words stay eight
 pub fold-length : (C : Core) (bs : List (List ℕ)) (ws : List ℕ) → length ws ≡ 8 → length (foldl (step C) ws bs) ≡ 8
@@ -54,14 +52,14 @@ pub keep-length : (h : Hash) (ws : List ℕ) → length ws ≡ 8 → length (kee
 unfolding keep
 keep-length h ws e =
     let w : ℕ = wordSize (describe h .core) in
-    let l : length (spell w ws) ≡ sizeOf h = spell-length w ws ∙ ap (λ (n : ℕ). n * w) e ∙ size-is h in
-    length-take-le (describe h .kept) (spell w ws) (omega (arith, kept-is h)) ∙ kept-is h
+    let l : length (spell w ws) ≡ 8 * w = spell-length w ws ∙ ap (λ (n : ℕ). n * w) e in
+    length-take-le (describe h .kept) (spell w ws) (omega (arith, described h .kept-most)) ∙ described h .kept-is
 
 module _ (h : Hash) (m : List ℕ) where
   -- every digest has its size
   pub digest-length : length (digestOf h m) ≡ sizeOf h
   unfolding digestOf digest digestFrom
-  digest-length = keep-length h _ (fold-length (describe h .core) (blocks (describe h .core) m) (describe h .first) (first-length h))
+  digest-length = keep-length h _ (fold-length (describe h .core) (blocks (describe h .core) m) (describe h .first) (described h .first-eight))
 
   -- it comes from its padded blocks and from nothing else
   pub digest-from-blocks : digestOf h m ≡ fromBlocks h (blocksOf h m)
@@ -73,11 +71,11 @@ module _ (h : Hash) (m : List ℕ) where
   unfolding blocksOf blockCountOf
   count-of-blocks =
       blocks-count (describe h .core) (positive h) m
-      ∙ ap (λ (B : ℕ). (length m + 1 + zeros (describe h .core) (length m) + fieldSize (describe h .core)) / B) (block-is h)
+      ∙ ap (λ (B : ℕ). (length m + 1 + zeros (describe h .core) (length m) + fieldSize (describe h .core)) / B) (described h .block-is)
 
   pub sized-blocks : Sized (blockOf h) (blocksOf h m)
   unfolding blocksOf
-  sized-blocks = subst (λ (B : ℕ). Sized B (blocks (describe h .core) m)) (block-is h) (blocks-sized (describe h .core) (positive h) m)
+  sized-blocks = subst (λ (B : ℕ). Sized B (blocks (describe h .core) m)) (described h .block-is) (blocks-sized (describe h .core) (positive h) m)
 
 -- no two messages share their padded blocks
 pub padding-injective : (h : Hash) (m n : List ℕ) → blocksOf h m ≡ blocksOf h n → m ≡ n

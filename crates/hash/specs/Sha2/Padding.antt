@@ -3,7 +3,7 @@
 use mathlib.Core.Path.{_≡_, refl, sym, ap, _∙_}
 use mathlib.Core.List.{List, [], _∷_, _++_, append-assoc, flatten}
 use Prim.Native.Nat.{ℕ, zero, suc, _+_, _-_, _*_, _/_, _%_, _≤_, _<_}
-use native.Mathlib.Nat.{mod-lt, mod-eq-of-lt, mod-self, mul-mod-left, div-add-mod'}
+use native.Mathlib.Nat.{add-assoc, mod-add-mod, mod-lt, mod-eq-of-lt, mod-self, mul-mod-left, div-add-mod'}
 use native.Mathlib.Decide.{decLe}
 use native.Mathlib.Omega.{arith}
 use lib.Arith.{digits-mod}
@@ -57,6 +57,31 @@ module _ (C : Core) (positive : 0 < blockSize C) where
             let f : B - r ≡ B = omega arith in
             full z (ap (λ (k : ℕ). k % B) f ∙ mod-self B)
       ]
+
+  -- where r bytes begin the block that takes the rest, the zeros fill it
+  pub zeros-after : (n j r : ℕ) → n + 1 + fieldSize C ≡ j * blockSize C + r → 0 < r → r ≤ blockSize C → zeros C n ≡ blockSize C - r
+  unfolding zeros
+  zeros-after n j r e p h =
+      let B : ℕ = blockSize C in
+      elim (decLe B r) [
+        | yes l ↦
+            let s : n + 1 + fieldSize C ≡ suc j * B = omega arith in
+            let f : B - (n + 1 + fieldSize C) % B ≡ B = omega (arith, ap (λ (k : ℕ). k % B) s ∙ mul-mod-left (suc j) B) in
+            let z : 0 ≡ B - r = omega arith in
+            ap (λ (k : ℕ). k % B) f ∙ mod-self B ∙ z
+        | no l ↦
+            ap (λ (k : ℕ). (B - k % B) % B) e ∙ ap (λ (k : ℕ). (B - k) % B) (digits-mod j {m = B} {r = r} (omega arith)) ∙ mod-eq-of-lt (omega arith)
+      ]
+
+  -- whole blocks before them play no part
+  pub zeros-rest : (n : ℕ) → zeros C (n % blockSize C) ≡ zeros C n
+  unfolding zeros
+  zeros-rest n =
+      let B : ℕ = blockSize C in
+      let F : ℕ = fieldSize C in
+      ap (λ (k : ℕ). (B - k % B) % B) (add-assoc (n % B) 1 F)
+      ∙ ap (λ (k : ℕ). (B - k) % B) (mod-add-mod n B (1 + F))
+      ∙ ap (λ (k : ℕ). (B - k % B) % B) (sym (add-assoc n 1 F))
 
   -- the padded message ends at a block
   pub ends-at-block : (n : ℕ) → (n + 1 + zeros C n + fieldSize C) % blockSize C ≡ 0

@@ -14,17 +14,16 @@ use Rattle.algorithm.specs.Hashes.Laws.{block-most, block-positive}
 use Rattle.octets.specs.Every.{every, allZero}
 use Rattle.octets.specs.Every.Laws.{and-parts, every-drop, zeros-all, all-zeros}
 use Rattle.algorithm.specs.declared.hashes.Hash.{Hash}
-use Rattle.algorithm.specs.declared.hashes.Hash.the-variants.{Sha256, Sha512}
+use Rattle.algorithm.specs.declared.hashes.Hash.the-variants.{Sha256}
 use Rattle.algorithm.specs.Hashes.{blockOf, sizeOf}
 use Rattle.algorithm.specs.Refusals.{mostBytes}
-use Rattle.hash.specs.Table.{first64, first32, upper}
 use Rattle.hash.specs.Description.{describe, narrow, wide}
 use Rattle.hash.specs.Blocks.{wholeBlocks, leftOver, wordsAfter}
 use Rattle.hash.specs.Blocks.Laws.{left-length, left-short, left-append, words-short, words-append}
 use Rattle.hash.specs.Sha2.{step, padding, keep}
 use Rattle.hash.specs.Sha2.Laws.{step-fits}
 use Rattle.hash.specs.Digest.{digestOf, blocksOf}
-use Rattle.hash.specs.Digest.Laws.{block-is, first-length, fold-length, keep-length}
+use Rattle.hash.specs.Digest.Laws.{described, fold-length, keep-length}
 use Rattle.hash.specs.Digest.Open.{blocks-is, digest-is}
 use Rattle.hash.specs.State.{places, heldOf, waitingOf, fit, wordsOf, placed, soundOf, Held, from, freshOf, zeroState, afterOf, endOf}
 use Rattle.hash.specs.declared.state.State.{State}
@@ -167,15 +166,10 @@ start-sound h ws p =
     in
     rw z p
 
-first-fits : (h : Hash) → fit h (describe h .first) ≡ true
-unfolding every describe narrow wide first32 first64 upper
-first-fits Sha256 = refl
-first-fits Sha512 = refl
-
 -- a start is sound, with nothing taken
 pub fresh-held : (h : Hash) → Held (freshOf h)
 unfolding freshOf soundOf
-fresh-held h = record { eight = first-length h; wide = refl; sound = start-sound h (describe h .first) (first-fits h) }
+fresh-held h = record { eight = described h .first-eight; wide = refl; sound = start-sound h (describe h .first) (described h .first-fits) }
 
 pub fresh-hash : (h : Hash) → freshOf h .hash ≡ h
 unfolding freshOf
@@ -224,7 +218,7 @@ end-from h ws m =
     end-after (from h ws) m refl
     ∙ ap (λ (k : ℕ). keep (describe h) (wordsOf h ws ((take k o ++ m) ++ padding C (0 + length m)))) z
     ∙ ap (λ (k : ℕ). keep (describe h) (wordsOf h ws (m ++ padding C k))) (zero-add (length m))
-    ∙ ap (λ (B : ℕ). keep (describe h) (foldl (step C) ws (wholeBlocks B (m ++ padding C (length m))))) (sym (block-is h))
+    ∙ ap (λ (B : ℕ). keep (describe h) (foldl (step C) ws (wholeBlocks B (m ++ padding C (length m))))) (sym (described h .block-is))
     ∙ ap (λ (bs : List (List ℕ)). keep (describe h) (foldl (step C) ws bs)) (sym (blocks-is h m))
 
 -- so a start that took a message ends in the message's digest

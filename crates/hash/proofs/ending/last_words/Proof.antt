@@ -1,13 +1,11 @@
 -- `hash::ending::last_words`: the words after the last blocks. Assumes nothing.
-use mathlib.Core.Path.{_≡_, sym, _∙_}
-use mathlib.Core.List.{List}
-use Prim.Native.Nat.{ℕ, _≤_}
+use mathlib.Core.Path.{sym, _∙_}
 use native.Mathlib.Omega.{arith}
-use lib.ListN.{length, take}
+use lib.ListN.{take}
 use lib.Seq.{length-take-le}
 use borrow.Author.Needs.{needs}
-use Rattle.hash.specs.State.Laws.{held-less, held-most}
-use Rattle.hash.proofs.LastBlocks.{end-range, last-words-is}
+use Rattle.hash.specs.State.Laws.{held-less}
+use Rattle.hash.proofs.LastBlocks.{last-range, last-words-is}
 use Rattle.hash.proofs.ending.last_words.Statement.{statement}
 use Rattle.hash.proofs.ending.last_words.Tie as tie
 
@@ -16,29 +14,23 @@ padded-end-requires c κs = omega (arith, c .held .ensures, held-less (c .before
 
 last-blocks-requires : tie.Need-last-blocks-requires
 last-blocks-requires c κs =
-    let s = c .before .before .before .args .state in
-    let a = c .before .before .held .ensures in
-    let r = end-range (s .hash) (c .before .before .held .result) (omega (arith, held-less s)) in
-    (omega (arith, held-most s), rw (c .before .padded-end .ensures) (r .0), rw (c .before .padded-end .ensures) (r .1))
+    last-range (c .before .before .before .args .state) (c .before .before .held .result) (c .before .padded-end .result) (c .before .before .held .ensures)
+    (c .before .padded-end .ensures)
 
 array-share-prefix-last : tie.Need-array-share-prefix-last
 array-share-prefix-last c =
-    let s = c .before .before .before .before .before .args .state in
     let a = c .before .before .before .before .held in
-    let e = c .before .before .before .padded-end .ensures in
-    let l : length (c .before .last-blocks .result) ≡ 256 = c .before .last-blocks .ok .1 .0 .1 in
-    let m : c .before .before .before .padded-end .result ≤ 256 = rw e (end-range (s .hash) (a .result) (omega (arith, a .ensures, held-less s)) .1) in
-    omega arith
+    let end = c .before .before .before .padded-end in
+    let r = last-range (c .before .before .before .before .before .args .state) (a .result) (end .result) (a .ensures) (end .ensures) in
+    omega (arith, c .before .last-blocks .ok .1 .0 .1)
 
 slice-aggregate-words-after : tie.Need-slice-aggregate-words-after
 slice-aggregate-words-after c =
-    let s = c .before .before .before .before .before .before .args .state in
     let a = c .before .before .before .before .before .held in
     let end = c .before .before .before .before .padded-end in
-    let last : List ℕ = c .before .before .last-blocks .result in
-    let l : length last ≡ 256 = c .before .before .last-blocks .ok .1 .0 .1 in
-    let m : end .result ≤ 256 = rw (end .ensures) (end-range (s .hash) (a .result) (omega (arith, a .ensures, held-less s)) .1) in
-    sym (length-take-le (end .result) last (omega arith))
+    let last = c .before .before .last-blocks in
+    let r = last-range (c .before .before .before .before .before .before .args .state) (a .result) (end .result) (a .ensures) (end .ensures) in
+    sym (length-take-le (end .result) (last .result) (omega (arith, last .ok .1 .0 .1)))
 
 words-after-requires : tie.Need-words-after-requires
 words-after-requires c κs = c .before .before .before .before .before .before .pre .words

@@ -1,16 +1,14 @@
--- `hash::ending::word_size` is the description's, by cases. Assumes nothing.
+-- `hash::ending::word_size` is the description's, since a block is sixteen words. Assumes nothing.
+use native.Mathlib.Omega.{arith}
 use borrow.Author.Needs.{needs}
-use Rattle.hash.specs.Description.{describe, narrow, wide}
+use Rattle.hash.specs.Sha2.{blockSize}
+use Rattle.hash.specs.Digest.Laws.{described}
 use Rattle.hash.proofs.ending.word_size.Statement.{statement}
 use Rattle.hash.proofs.ending.word_size.Tie as tie
 
 returns : tie.Need-returns
-unfolding describe narrow
-returns c = rw (c .enum-told .given .1)
-
-returns-2 : tie.Need-returns-2
-unfolding describe wide
-returns-2 c = rw (c .enum-told2 .given .1)
+unfolding blockSize
+returns c = omega (arith, c .block-size .ensures, described (c .before .args .hash) .block-is)
 
 pub word-size-spec : {M : Type 1} → statement M
-word-size-spec = tie.close (tie.spec (λ c. search needs) (λ c. search needs) returns returns-2)
+word-size-spec = tie.close (tie.spec (λ c κs. search needs) returns)
