@@ -1,7 +1,7 @@
-pub mod Width
+pub mod Word
 pub mod Numbers
 pub mod Schedule
 pub mod Rounds
 pub mod Tables
-pub mod Copies
+pub mod Loops
 pub mod LastBlocks

@@ -5,12 +5,11 @@ use mathlib.Core.List.{List, [], _∷_}
 use Prim.Native.Nat.{ℕ, zero, suc, _+_, _-_, _<_}
 use native.Mathlib.Numerals.{add-one}
 use native.Mathlib.Omega.{arith}
-use lib.ListN.{length, getD, take, set, List·getD-map}
+use lib.ListN.{length, getD, take, List·getD-map}
 use lib.Seq.{getD-take}
 use Rattle.hash.specs.Word.{add, ch, maj}
 use Rattle.hash.specs.Table.{k32, k64, upper}
 use Rattle.hash.specs.Description.{Core}
-use Rattle.hash.proofs.Copies.{copy-more}
 use Rattle.hash.specs.Sha2.{big0, big1, small0, small1, mix, schedule, t1, t2, round, rounds, sums, step}
 
 -- the round constants of the two cores, out of the one table
@@ -50,8 +49,8 @@ module _ (C : Core) where
   unfolding rounds
   rounds-more ws h t e g f = f ∙ (λ i. round C (e i) (g i) (getD ws t 0)) ∙ ap (rounds C ws h) (sym (add-one t))
 
-  -- each of the eight sums, and a turn of the loop over them
-  sums-at : (h v : List ℕ) (i : ℕ) → i < 8 → getD (sums C h v) i 0 ≡ add (C .width) (getD h i 0) (getD v i 0)
+  -- each of the eight sums
+  pub sums-at : (h v : List ℕ) (i : ℕ) → i < 8 → add (C .width) (getD h i 0) (getD v i 0) ≡ getD (sums C h v) i 0
   unfolding sums
   sums-at h v zero l = refl
   sums-at h v (suc zero) l = refl
@@ -66,12 +65,6 @@ module _ (C : Core) where
   pub sums-length : (h v : List ℕ) → length (sums C h v) ≡ 8
   unfolding sums
   sums-length h v = refl
-
-  pub sums-more : (o h v : List ℕ) (i : ℕ) {x : ℕ} → i < length o → i < 8 → take i o ≡ take i (sums C h v)
-      → x ≡ add (C .width) (getD h i 0) (getD v i 0) → take (i + 1) (set o i x) ≡ take (i + 1) (sums C h v)
-  sums-more o h v i l m e f =
-      ap (λ (y : ℕ). take (i + 1) (set o i y)) (f ∙ sym (sums-at h v i m))
-      ∙ copy-more o (sums C h v) i l (omega (arith, sums-length h v)) e
 
   pub step-code : (h b : List ℕ) {ws v r : List ℕ} → ws ≡ schedule C b (C .rounds - 16) → v ≡ rounds C ws h (C .rounds)
       → r ≡ sums C h v → r ≡ step C h b

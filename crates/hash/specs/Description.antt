@@ -3,6 +3,8 @@ use mathlib.Core.List.{List}
 use Prim.Native.Nat.{ℕ}
 use Rattle.algorithm.specs.declared.hashes.Hash.{Hash}
 use Rattle.algorithm.specs.declared.hashes.Hash.the-variants.{Sha256, Sha512}
+use Rattle.hash.specs.declared.width.Width.{Width}
+use Rattle.hash.specs.declared.width.Width.the-variants.{Narrow, Wide}
 use Rattle.hash.specs.Word.{Amounts}
 use Rattle.hash.specs.Table.{k64, k32, first64, first32}
 
@@ -44,6 +46,11 @@ wide =
       small1-by = amounts 19 61 6;
       k = k64;
     }
+
+-- the core of each width
+unfoldable pub coreOf : Width → Core
+coreOf Narrow = narrow
+coreOf Wide = wide
 
 -- a hash: its core, its first chaining words, and how many bytes of the last ones it keeps
 pub record Description : Type 0 where

@@ -2,6 +2,8 @@
 use crate::narrow;
 use crate::table::table;
 use crate::wide;
+use crate::width::Width;
+use crate::width::width_of;
 use algorithm::Hash;
 ghost use mathlib.Core.Path.{_≡_};
 ghost use mathlib.Core.Bool.{true};
@@ -9,6 +11,9 @@ ghost use Prim.Native.Nat.{_^_};
 ghost use lib.Dec.{ltb};
 ghost use Rattle.octets.specs.Every.{every};
 ghost use Rattle.hash.specs.Table.{k64};
+ghost use Rattle.hash.specs.Description.{narrow};
+ghost use Rattle.hash.specs.Blocks.{wordsAfter};
+ghost use Rattle.hash.specs.Sha2.{blockSize, step};
 ghost use Rattle.hash.specs.State.{fit, wordsOf};
 
 // The same words in 32 bits each, which they fit.
@@ -35,8 +40,8 @@ fn widened(words: [u32; 8]) -> [u64; 8]
 }
 
 fn after_narrow(words: [u64; 8], bytes: &[u8], k: &[u64; 80]) -> [u64; 8]
-    requires { ⌜ (fit Hash.Sha256 words ≡ true) × (now k ≡ k64) ⌝ }
-    ensures { λ r. ⌜ r ≡ wordsOf Hash.Sha256 words (now (bytes .entry)) ⌝ }
+    requires { ⌜ (every (λ x. ltb x (2 ^ 32)) words ≡ true) × (now k ≡ k64) ⌝ }
+    ensures { λ r. ⌜ r ≡ wordsAfter (blockSize narrow) (step narrow) words (now (bytes .entry)) ⌝ }
 {
     let start = narrowed(words);
     let end = narrow::after_blocks(start, bytes, k);
@@ -49,8 +54,9 @@ pub(crate) fn words_after(hash: Hash, words: [u64; 8], bytes: &[u8]) -> [u64; 8]
     ensures { λ r. ⌜ r ≡ wordsOf hash words (now (bytes .entry)) ⌝ }
 {
     let k = table();
-    match hash {
-        Hash::Sha256 => after_narrow(words, bytes, &k),
-        Hash::Sha512 => wide::after_blocks(words, bytes, &k),
+    let width = width_of(hash);
+    match width {
+        Width::Narrow => after_narrow(words, bytes, &k),
+        Width::Wide => wide::after_blocks(words, bytes, &k),
     }
 }

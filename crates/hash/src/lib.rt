@@ -10,6 +10,7 @@ mod starting;
 mod state;
 mod table;
 mod wide;
+mod width;
 mod words;
 
 pub use ending::finish;

@@ -10,6 +10,11 @@ ghost use Rattle.hash.specs.Description.{narrow};
 ghost use Rattle.hash.specs.Blocks.{wordsAfter};
 ghost use Rattle.hash.specs.Sha2 as sha;
 
+// The bytes of a word and of a block.
+const WORD: usize = 4;
+
+const BLOCK: usize = 16 * WORD;
+
 fn add(x: u32, y: u32) -> u32
     ensures { λ r. ⌜ r ≡ add 32 x y ⌝ }
 {
@@ -92,7 +97,7 @@ fn load(b: &[u8]) -> [u32; 64]
 {
     let mut w = [0u32; 64];
     for t in 0..16 {
-        w[t] = word32(b, 4 * t);
+        w[t] = word32(b, WORD * t);
     }
     w
 }
@@ -143,12 +148,12 @@ fn step(s: [u32; 8], b: &[u8], k: &[u64; 80]) -> [u32; 8]
 // The chaining words after every whole block of the bytes, each read where it stands; `k` is the table, lent by the caller.
 pub(crate) fn after_blocks(words: [u32; 8], bytes: &[u8], k: &[u64; 80]) -> [u32; 8]
     requires { ⌜ now k ≡ k64 ⌝ }
-    ensures { λ r. ⌜ r ≡ wordsAfter 64 (sha.step narrow) words (now (bytes .entry)) ⌝ }
+    ensures { λ r. ⌜ r ≡ wordsAfter (sha.blockSize narrow) (sha.step narrow) words (now (bytes .entry)) ⌝ }
 {
     let mut v = words;
     let mut at: usize = 0;
-    while 64 <= bytes.len() - at {
-        let end = at + 64;
+    while BLOCK <= bytes.len() - at {
+        let end = at + BLOCK;
         let n = step(v, &bytes[at..end], k);
         v = n;
         at = end;

@@ -6,6 +6,8 @@ ghost use Rattle.octets.specs.Every.{every};
 ghost use Rattle.hash.specs.State.{fit};
 ghost use Rattle.hash.specs.Calls.{SoundOutcome};
 use crate::state::State;
+use crate::width::Width;
+use crate::width::width_of;
 use algorithm::Hash;
 
 // The bits of all words together: they fit a width exactly where each word does.
@@ -24,9 +26,10 @@ fn words_fit(hash: Hash, words: [u64; 8]) -> bool
     ensures { λ r. ⌜ r ≡ fit hash words ⌝ }
 {
     let bits = gathered(words);
-    match hash {
-        Hash::Sha256 => bits < 0x1_0000_0000,
-        Hash::Sha512 => true,
+    let width = width_of(hash);
+    match width {
+        Width::Narrow => bits < 0x1_0000_0000,
+        Width::Wide => true,
     }
 }
 

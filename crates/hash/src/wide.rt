@@ -9,6 +9,11 @@ ghost use Rattle.hash.specs.Description.{wide};
 ghost use Rattle.hash.specs.Blocks.{wordsAfter};
 ghost use Rattle.hash.specs.Sha2 as sha;
 
+// The bytes of a word and of a block.
+const WORD: usize = 8;
+
+const BLOCK: usize = 16 * WORD;
+
 fn add(x: u64, y: u64) -> u64
     ensures { λ r. ⌜ r ≡ add 64 x y ⌝ }
 {
@@ -91,7 +96,7 @@ fn load(b: &[u8]) -> [u64; 80]
 {
     let mut w = [0u64; 80];
     for t in 0..16 {
-        w[t] = word64(b, 8 * t);
+        w[t] = word64(b, WORD * t);
     }
     w
 }
@@ -142,12 +147,12 @@ fn step(s: [u64; 8], b: &[u8], k: &[u64; 80]) -> [u64; 8]
 // The chaining words after every whole block of the bytes, each read where it stands; `k` is the table, lent by the caller.
 pub(crate) fn after_blocks(words: [u64; 8], bytes: &[u8], k: &[u64; 80]) -> [u64; 8]
     requires { ⌜ now k ≡ k64 ⌝ }
-    ensures { λ r. ⌜ r ≡ wordsAfter 128 (sha.step wide) words (now (bytes .entry)) ⌝ }
+    ensures { λ r. ⌜ r ≡ wordsAfter (sha.blockSize wide) (sha.step wide) words (now (bytes .entry)) ⌝ }
 {
     let mut v = words;
     let mut at: usize = 0;
-    while 128 <= bytes.len() - at {
-        let end = at + 128;
+    while BLOCK <= bytes.len() - at {
+        let end = at + BLOCK;
         let n = step(v, &bytes[at..end], k);
         v = n;
         at = end;

@@ -156,15 +156,6 @@ module _ (B : ℕ) where
     words-append ws a b p =
         ap (foldl step ws) (whole-append a b p) ∙ foldl-append step ws (wholeBlocks B a) (wholeBlocks B (leftOver B a ++ b))
 
-    -- a turn of a loop over blocks: the block from `at` to at + n
-    pub turn : (ws r s : List ℕ) (at n : ℕ) → 0 < B → n ≡ B → at + n ≤ length s
-        → r ≡ step ws (take (at + n - at) (drop at s)) → wordsAfter B step r (drop (at + n) s) ≡ wordsAfter B step ws (drop at s)
-    turn ws r s at n p e h q =
-        let k : at + n - at ≡ B = omega arith in
-        let hl : B ≤ length (drop at s) = rw length-drop (omega arith) in
-        let m : at + B ≡ at + n = omega arith in
-        cc (words-step ws (drop at s) p hl, drop-drop B at s)
-
     -- a piece whose first bytes fill the block that a begins: that block first, then the rest
     pub words-filled : (ws a p : List ℕ) (room : ℕ) → 0 < B → length (a ++ take room p) ≡ B
         → wordsAfter B step ws (a ++ p) ≡ wordsAfter B step (wordsAfter B step ws (a ++ take room p)) (drop room p)

@@ -1,39 +1,33 @@
 -- `hash::narrow::load` reads one word a turn. Assumes nothing.
-use mathlib.Core.Path.{_≡_, refl, _∙_}
-use Prim.Native.Nat.{_≤_, _-_}
+use mathlib.Core.Path.{refl}
+use Prim.Native.Nat.{_-_, zero-le}
 use native.Mathlib.Omega.{arith}
-use lib.ListN.{length, take, length-set}
 use denote.Ref.{now}
 use Rattle.hash.specs.Description.{narrow}
 use Rattle.hash.specs.Sha2.{words, word}
-use Rattle.hash.proofs.Schedule.{words-more}
+use Rattle.hash.proofs.Schedule.{words-next}
+use Rattle.hash.proofs.Loops.{Written, more, done}
 use Rattle.hash.proofs.narrow.load.Statement.{statement}
 use Rattle.hash.proofs.narrow.load.Tie as tie
 
 abbrev Inv-loop : tie.InvT-loop
-Inv-loop b w₀ t₀ w t = (t ≤ 16) × (length w ≡ 64) × (take t w ≡ words narrow b t)
+Inv-loop b w₀ t₀ w t = Written (words narrow b) 16 64 w t
 
 abbrev μ-loop : tie.MeasureT-loop
 μ-loop b w₀ t₀ w t = 16 - t
 
 loop-holds : tie.Need-loop-holds Inv-loop μ-loop
 unfolding words
-loop-holds c = (omega arith, refl, refl)
+loop-holds c = record { within = zero-le; size = refl; is = refl }
 
 loop-again : tie.Need-loop-again Inv-loop μ-loop
 unfolding narrow word
 loop-again c =
-    let at = c .before .before .loop in (
-      omega arith,
-      length-set (at .w) (at .t) (c .word32 .result) ∙ at .inv .1,
-      words-more narrow (now (c .before .before .before .before .args .b)) (at .w) (at .t) (c .word32 .result) (omega arith)
-          (at .inv .2) (c .word32 .ensures),
-    )
+    let at = c .before .before .loop in
+    more (at .inv) (c .word32 .result) (omega arith) (omega arith) (words-next narrow (now (c .before .before .before .before .args .b)) (at .t) (c .word32 .ensures))
 
 returns : tie.Need-returns Inv-loop μ-loop
-returns c =
-    let h : c .before .loop .t ≡ 16 = omega arith in
-    rw h at (c .before .loop .inv .2)
+returns c = done (c .before .loop .inv) (omega arith)
 
 pub load-spec : {M : Type 1} → statement M
 load-spec =

@@ -1,7 +1,7 @@
 -- `hash::narrow::rotr` is two shifts. Assumes nothing.
 use native.Mathlib.Omega.{arith}
 use borrow.Author.Needs.{needs}
-use Rattle.hash.proofs.Width.{rotr-code}
+use Rattle.hash.proofs.Word.{rotr-code}
 use Rattle.hash.proofs.narrow.rotr.Statement.{statement}
 use Rattle.hash.proofs.narrow.rotr.Tie as tie
 

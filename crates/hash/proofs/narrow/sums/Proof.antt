@@ -1,44 +1,33 @@
 -- `hash::narrow::sums`: one word a turn. Assumes nothing.
-use mathlib.Core.Path.{_≡_, refl, _∙_}
-use Prim.Native.Nat.{_≤_, _-_}
+use mathlib.Core.Path.{refl, _∙_}
+use Prim.Native.Nat.{_-_, zero-le}
 use native.Mathlib.Omega.{arith}
-use lib.ListN.{length, take, length-set}
 use borrow.Author.Needs.{needs}
 use Rattle.hash.specs.Description.{narrow}
 use Rattle.hash.specs.Sha2.{sums}
-use Rattle.hash.proofs.Copies.{copy-done}
-use Rattle.hash.proofs.Rounds.{sums-length, sums-more}
+use Rattle.hash.proofs.Rounds.{sums-length, sums-at}
+use Rattle.hash.proofs.Loops.{Copied, copy, copied}
 use Rattle.hash.proofs.narrow.sums.Statement.{statement}
 use Rattle.hash.proofs.narrow.sums.Tie as tie
 
 abbrev Inv-loop : tie.InvT-loop
-Inv-loop s v out₀ i₀ out i = (i ≤ 8) × (length out ≡ 8) × (take i out ≡ take i (sums narrow s v))
+Inv-loop s v out₀ i₀ out i = Copied (sums narrow s v) 8 out i
 
 abbrev μ-loop : tie.MeasureT-loop
 μ-loop s v out₀ i₀ out i = 8 - i
-
-loop-holds : tie.Need-loop-holds Inv-loop μ-loop
-loop-holds c = (omega arith, c .good .0 .1 .0 .1, refl)
 
 loop-again : tie.Need-loop-again Inv-loop μ-loop
 unfolding narrow
 loop-again c =
     let entry = c .before .before .before .args in
-    let at = c .before .before .loop in (
-      omega arith,
-      length-set (at .out) (at .i) (c .add .result) ∙ at .inv .1,
-      sums-more narrow (at .out) (entry .t1) (entry .t2) (at .i) (omega arith) (omega arith) (at .inv .2) (c .add .ensures),
-    )
+    let at = c .before .before .loop in
+    copy (at .inv) (sums-length narrow (entry .t1) (entry .t2)) (c .add .result) (omega arith) (c .add .ensures ∙ sums-at narrow (entry .t1) (entry .t2) (at .i) (omega arith))
 
 returns : tie.Need-returns Inv-loop μ-loop
-returns c =
-    let entry = c .before .before .args in
-    let at = c .before .loop in
-    let h : at .i ≡ 8 = omega arith in
-    copy-done 8 h (at .inv .1) (sums-length narrow (entry .t1) (entry .t2)) (at .inv .2)
+returns c = copied (c .before .loop .inv) (sums-length narrow (c .before .before .args .t1) (c .before .before .args .t2)) (omega arith)
 
 pub sums-spec : {M : Type 1} → statement M
 sums-spec =
     tie.close
-    (tie.spec Inv-loop μ-loop loop-holds (λ c. search needs) (λ c. search needs) (λ c. search needs) (λ c. search needs)
-    (λ c κs. tt) (λ c. search needs) (λ c. omega arith) (λ c. omega arith) (λ c. omega arith) loop-again returns)
+    (tie.spec Inv-loop μ-loop (λ c. record { within = zero-le; size = c .good .0 .1 .0 .1; is = refl }) (λ c. search needs) (λ c. search needs)
+    (λ c. search needs) (λ c. search needs) (λ c κs. tt) (λ c. search needs) (λ c. omega arith) (λ c. omega arith) (λ c. omega arith) loop-again returns)

@@ -11,7 +11,7 @@ use borrow.Author.Needs.{needs}
 use borrow.Author.Tests.{lt-ltb}
 use Rattle.octets.specs.Every.{every}
 use Rattle.octets.specs.Every.Laws.{every-more}
-use Rattle.hash.proofs.Width.{or-fits}
+use Rattle.hash.proofs.Word.{or-fits}
 use Rattle.hash.proofs.soundness.gathered.Statement.{statement}
 use Rattle.hash.proofs.soundness.gathered.Tie as tie
 

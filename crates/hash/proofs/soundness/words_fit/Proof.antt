@@ -1,22 +1,30 @@
 -- `hash::soundness::words_fit`: by the gathered bits, which fit 64 bits by their type. Assumes nothing.
-use mathlib.Core.Path.{sym, _∙_}
+use mathlib.Core.Path.{sym, ap, _∙_}
 use Prim.Native.Nat.{_^_, _<_}
 use borrow.Author.Needs.{needs}
 use borrow.Author.Tests.{lt-ltb}
-use Rattle.hash.specs.Description.{describe, narrow, wide}
+use Rattle.hash.specs.Description.{narrow, wide, coreOf}
+use Rattle.hash.specs.State.Open.{fit-by-core}
 use Rattle.hash.proofs.soundness.words_fit.Statement.{statement}
 use Rattle.hash.proofs.soundness.words_fit.Tie as tie
 
 returns : tie.Need-returns
-unfolding describe narrow
-returns c = rw (c .enum-told .given .1) (c .before .before .gathered .ensures 32)
+unfolding coreOf narrow
+returns c =
+    let start = c .before .before .before .before in
+    c .before .before .before .gathered .ensures 32
+    ∙ sym (fit-by-core (start .args .hash) narrow (c .before .before .width-of .ensures ∙ ap coreOf (c .enum-told .given .1)) (start .args .words))
 
 returns-2 : tie.Need-returns-2
-unfolding describe wide
+unfolding coreOf wide
 returns-2 c =
-    let bits = c .before .before .gathered in
+    let start = c .before .before .before .before in
+    let bits = c .before .before .before .gathered in
     let fits : bits .result < 2 ^ 64 = search needs in
-    rw (c .enum-told2 .given .1) (sym (lt-ltb (bits .result) (2 ^ 64) fits) ∙ bits .ensures 64)
+    sym (lt-ltb (bits .result) (2 ^ 64) fits)
+    ∙ bits .ensures 64
+    ∙ sym (fit-by-core (start .args .hash) wide (c .before .before .width-of .ensures ∙ ap coreOf (c .enum-told2 .given .1)) (start .args .words))
 
 pub words-fit-spec : {M : Type 1} → statement M
-words-fit-spec = tie.close (tie.spec (λ c κs. search needs) (λ c. search needs) (λ c. search needs) returns returns-2)
+words-fit-spec =
+    tie.close (tie.spec (λ c κs. search needs) (λ c κs. search needs) (λ c. search needs) (λ c. search needs) returns returns-2)

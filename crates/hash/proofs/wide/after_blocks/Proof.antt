@@ -1,20 +1,17 @@
--- `hash::wide::after_blocks` takes one block a turn: the words after what is left stay those after all. Assumes nothing.
-use mathlib.Core.Path.{_≡_, refl, sym, _∙_}
-use Prim.Native.Nat.{_≤_, _-_}
+-- `hash::wide::after_blocks` takes one block a turn. Assumes nothing.
+use Prim.Native.Nat.{_-_}
 use native.Mathlib.Omega.{arith}
 use lib.Dec.{lit<}
-use lib.ListN.{length, drop, length-take, length-drop}
+use lib.ListN.{length, length-take, length-drop}
 use denote.Ref.{now}
 use Rattle.hash.specs.Description.{wide}
-use Rattle.hash.specs.Blocks.{wordsAfter}
-use Rattle.hash.specs.Blocks.Laws.{words-short, turn}
-use Rattle.hash.specs.Sha2.{step}
+use Rattle.hash.specs.Sha2.{blockSize}
+use Rattle.hash.proofs.Loops.{Taken, untaken, one-more, all-taken}
 use Rattle.hash.proofs.wide.after_blocks.Statement.{statement}
 use Rattle.hash.proofs.wide.after_blocks.Tie as tie
 
 abbrev Inv-loop : tie.InvT-loop
-Inv-loop bytes k v₀ at₀ v at =
-    (at ≤ length bytes) × (wordsAfter 128 (step wide) v (drop at bytes) ≡ wordsAfter 128 (step wide) v₀ bytes)
+Inv-loop bytes k v₀ at₀ v at = Taken wide bytes v₀ v at
 
 abbrev μ-loop : tie.MeasureT-loop
 μ-loop bytes k v₀ at₀ v at = length bytes - at
@@ -23,22 +20,15 @@ step-requires : tie.Need-step-requires Inv-loop μ-loop
 step-requires c κs = (simp (length-take, length-drop) (omega arith), c .before .before .before .before .pre)
 
 loop-again : tie.Need-loop-again Inv-loop μ-loop
-loop-again c =
-    let bytes = now (c .before .before .before .before .before .args .bytes) in
-    let here = c .before .before .before .loop in (
-      omega arith,
-      turn 128 (step wide) (here .v) (c .step .result) bytes (here .at) 128 (lit< tt) refl (omega arith) (c .step .ensures)
-          ∙ here .inv .1,
-    )
+unfolding blockSize wide
+loop-again c = one-more (c .before .before .before .loop .inv) (lit< tt) (omega arith) (c .step .ensures)
 
 returns : tie.Need-returns Inv-loop μ-loop
-returns c =
-    let bytes = now (c .before .before .before .args .bytes) in
-    let here = c .before .loop in
-    sym (words-short 128 (step wide) (here .v) (drop (here .at) bytes) (simp length-drop (omega arith))) ∙ here .inv .1
+unfolding blockSize wide
+returns c = all-taken (c .before .loop .inv) (omega arith)
 
 pub after-blocks-spec : {M : Type 1} → statement M
 after-blocks-spec =
     tie.close
-    (tie.spec Inv-loop μ-loop (λ c. (omega arith, refl)) (λ c. omega arith) (λ c. omega arith) (λ c. omega arith)
-    (λ c. omega arith) (λ c. omega arith) step-requires (λ c. omega arith) loop-again returns)
+    (tie.spec Inv-loop μ-loop (λ c. untaken wide (now (c .before .args .bytes)) (c .before .args .words)) (λ c. omega arith) (λ c. omega arith)
+    (λ c. omega arith) (λ c. omega arith) (λ c. omega arith) step-requires (λ c. omega arith) loop-again returns)

@@ -2,7 +2,7 @@
 use borrow.Author.Needs.{needs}
 use Rattle.hash.specs.Description.{wide}
 use Rattle.hash.specs.Sha2.{big1}
-use Rattle.hash.proofs.Width.{big-code}
+use Rattle.hash.proofs.Word.{big-code}
 use Rattle.hash.proofs.wide.big1.Statement.{statement}
 use Rattle.hash.proofs.wide.big1.Tie as tie
 

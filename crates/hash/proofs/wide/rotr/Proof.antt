@@ -1,7 +1,7 @@
 -- `hash::wide::rotr` is two shifts. Assumes nothing.
 use native.Mathlib.Omega.{arith}
 use borrow.Author.Needs.{needs}
-use Rattle.hash.proofs.Width.{rotr-code}
+use Rattle.hash.proofs.Word.{rotr-code}
 use Rattle.hash.proofs.wide.rotr.Statement.{statement}
 use Rattle.hash.proofs.wide.rotr.Tie as tie
 

@@ -2,7 +2,7 @@
 use borrow.Author.Needs.{needs}
 use Rattle.hash.specs.Description.{wide}
 use Rattle.hash.specs.Sha2.{small1}
-use Rattle.hash.proofs.Width.{small-code}
+use Rattle.hash.proofs.Word.{small-code}
 use Rattle.hash.proofs.wide.small1.Statement.{statement}
 use Rattle.hash.proofs.wide.small1.Tie as tie
 
