@@ -2,13 +2,13 @@
 -- Assumes nothing.
 use mathlib.Core.Path.{_≡_, refl, sym, ap, _∙_}
 use mathlib.Core.List.{List, [], _∷_, _++_, append-assoc, append-nil}
-use Prim.Native.Nat.{ℕ, suc, _+_, _-_, _*_, _%_, _^_, _≤_, _<_, zero-le}
-use native.Mathlib.Nat.{div-eq-of-lt, mul-le-mul-right}
+use Prim.Native.Nat.{ℕ, zero, suc, _+_, _-_, _*_, _%_, _^_, _≤_, _<_, zero-le}
+use native.Mathlib.Nat.{not-suc-le-zero, le-of-suc-le-suc, div-eq-of-lt, mul-le-mul-right}
 use native.Mathlib.Numerals.{add-one}
 use native.Mathlib.Decide.{decLe}
 use native.Mathlib.Omega.{arith}
 use lib.ListN.{length, getD, take, drop, set, replicate, length-append, length-replicate, replicate-append-replicate}
-use lib.Seq.{take-all, take-suc, take-append-add, take-append-seam, take-length, drop-append-add, set-at, paste, length-take-le}
+use lib.Seq.{take-all, take-append-add, take-append-seam, take-length, drop-append-add, set-at, paste, length-take-le}
 use Rattle.octets.specs.Copy.{over}
 use Rattle.octets.specs.Every.Laws.{drop-zeros}
 use Rattle.octets.specs.Zeros.{zerosTo}
@@ -16,45 +16,49 @@ use Rattle.octets.specs.Zeros.Laws.{over-buffer, zeros-length}
 use Rattle.octets.specs.Number.{bytes}
 use Rattle.octets.specs.Number.Laws.{bytes-length, bytes-add, bytes-zero, bytes-last}
 use Rattle.octets.specs.Parts.{part-all, take-pasted, paste-zeros, take-replicate}
-use Rattle.algorithm.specs.declared.hashes.Hash.{Hash}
 use Rattle.algorithm.specs.Hashes.{sizeOf}
+use Rattle.algorithm.specs.Hashes.Laws.{block-most}
 use Rattle.algorithm.specs.Refusals.{mostBytes}
 use Rattle.hash.specs.Description.{Core, describe}
 use Rattle.hash.specs.Sha2.{wordSize, blockSize, fieldSize, zeros, lengthField, padding, spell, keep}
 use Rattle.hash.specs.Sha2.Laws.{spell-length}
 use Rattle.hash.specs.Sha2.Padding.{zeros-after, zeros-rest}
 use Rattle.hash.specs.Digest.Laws.{described}
-use Rattle.hash.specs.State.{places, heldOf, waitingOf, wordsOf, lastWords}
-use Rattle.hash.specs.State.Laws.{held-less, held-most}
+use Rattle.hash.specs.State.{places, heldOf, waitingOf, wordsOf, lastWords, endOf}
+use Rattle.hash.specs.State.Open.{end-is}
+use Rattle.hash.specs.State.Laws.{held-less}
 use Rattle.hash.specs.Inside.{paddedEnd}
 use Rattle.hash.specs.declared.state.State.{State}
 
 -- of a number that j bytes hold, the bytes before them are zeros
-bytes-front : (k j n : ℕ) → n < 256 ^ j → bytes (k + j) n ≡ replicate k 0 ++ bytes j n
-bytes-front k j n h =
-    bytes-add k j n ∙ ap (λ (i : ℕ). bytes k i ++ bytes j n) (div-eq-of-lt h) ∙ ap (λ (r : List ℕ). r ++ bytes j n) (bytes-zero k)
+bytes-front : (k j n : ℕ) → j ≤ k → n < 256 ^ j → replicate (k - j) 0 ++ bytes j n ≡ bytes k n
+bytes-front k j n h l =
+    let e : k - j + j ≡ k = omega arith in
+    ap (λ (r : List ℕ). r ++ bytes j n) (sym (bytes-zero (k - j)))
+    ∙ ap (λ (i : ℕ). bytes (k - j) i ++ bytes j n) (sym (div-eq-of-lt l))
+    ∙ sym (bytes-add (k - j) j n)
+    ∙ ap (λ (i : ℕ). bytes i n) e
 
--- over any core whose words have four to eight bytes
-module _ (C : Core) (least : 4 ≤ wordSize C) (most : wordSize C ≤ 8) where
-  -- a block has a byte, and the length field has eight bytes and fits it
-  sizes : (0 < blockSize C) × (8 ≤ fieldSize C) × (fieldSize C ≤ blockSize C) × (blockSize C ≤ 128)
+-- over any core whose words have at least four bytes
+module _ (C : Core) (least : 4 ≤ wordSize C) where
+  -- the length field has eight bytes and fits a block
+  sizes : (8 ≤ fieldSize C) × (fieldSize C < blockSize C)
   unfolding blockSize fieldSize
-  sizes = (omega arith, omega arith, omega arith, omega arith)
+  sizes = (omega arith, omega arith)
 
   -- the padding ends at one block or at two
   pub end-one : (at : ℕ) → at + 1 + fieldSize C ≤ blockSize C → blockSize C ≡ paddedEnd C at
   end-one at h =
-      let x : ℕ = at + 1 + fieldSize C in
-      omega (arith, zeros-after C (sizes .0) at 0 x (omega arith) (omega arith) h)
-
-  pub end-two : (at : ℕ) → at < blockSize C → blockSize C < at + 1 + fieldSize C → blockSize C + blockSize C ≡ paddedEnd C at
-  end-two at p h =
-      let r : ℕ = at + 1 + fieldSize C - blockSize C in
       let s = sizes in
-      omega (arith, zeros-after C (sizes .0) at 1 r (omega arith) (omega arith) (omega arith))
+      omega (arith, zeros-after C (omega arith) at 0 (at + 1 + fieldSize C) (omega arith) (omega arith) h)
 
-  -- it has room for the mark and eight bytes, and two of the largest blocks have room for it
-  end-range : (at : ℕ) → at < blockSize C → (at + 9 ≤ paddedEnd C at) × (paddedEnd C at ≤ 256)
+  pub end-two : (at : ℕ) → at < blockSize C → blockSize C < at + 1 + fieldSize C → 2 * blockSize C ≡ paddedEnd C at
+  end-two at p h =
+      let s = sizes in
+      omega (arith, zeros-after C (omega arith) at 1 (at + 1 + fieldSize C - blockSize C) (omega arith) (omega arith) (omega arith))
+
+  -- it has room for the mark and eight bytes
+  end-range : (at : ℕ) → at < blockSize C → (at + 9 ≤ paddedEnd C at) × (paddedEnd C at ≤ 2 * blockSize C)
   end-range at p =
       let s = sizes in
       elim (decLe (at + 1 + fieldSize C) (blockSize C)) [
@@ -69,13 +73,14 @@ module _ (C : Core) (least : 4 ≤ wordSize C) (most : wordSize C ≤ 8) where
   padding-is n l =
       let z : ℕ = zeros C n in
       let k : ℕ = fieldSize C - 8 in
+      let b : List ℕ = bytes 8 (8 * n) in
       let s = sizes in
-      let e : paddedEnd C (n % blockSize C) - (n % blockSize C + 9) ≡ z + k = omega (arith, zeros-rest C (sizes .0) n) in
-      let f : k + 8 ≡ fieldSize C = omega arith in
-      ap (λ (i : ℕ). 128 ∷ replicate i 0 ++ bytes 8 (8 * n)) e
-      ∙ ap (λ (r : List ℕ). 128 ∷ r ++ bytes 8 (8 * n)) (sym (replicate-append-replicate z k 0))
-      ∙ append-assoc (128 ∷ replicate z 0) (replicate k 0) (bytes 8 (8 * n))
-      ∙ ap (λ (r : List ℕ). 128 ∷ replicate z 0 ++ r) (sym (bytes-front k 8 (8 * n) (omega arith)) ∙ ap (λ (i : ℕ). bytes i (8 * n)) f)
+      let e : paddedEnd C (n % blockSize C) - (n % blockSize C + 9) ≡ z + k = omega (arith, zeros-rest C (omega arith) n) in
+      let f : replicate k 0 ++ b ≡ bytes (fieldSize C) (8 * n) = bytes-front (fieldSize C) 8 (8 * n) (omega arith) (omega arith) in
+      ap (λ (i : ℕ). 128 ∷ replicate i 0 ++ b) e
+      ∙ ap (λ (r : List ℕ). 128 ∷ r ++ b) (sym (replicate-append-replicate z k 0))
+      ∙ append-assoc (128 ∷ replicate z 0) (replicate k 0) b
+      ∙ ap (λ (r : List ℕ). 128 ∷ replicate z 0 ++ r) f
 
 -- the last blocks: zeros, the waiting bytes a, the mark behind them, and the length b at the end
 pub last-is : (a b x y : List ℕ) (at end : ℕ) → length a ≡ at → length b ≡ 8 → at + 9 ≤ end → end ≤ 256
@@ -105,8 +110,9 @@ pub last-range : (s : State) (at end : ℕ) → at ≡ heldOf s → end ≡ padd
 last-range s at end ea ee =
     let d = described (s .hash) in
     let h = held-less s in
-    let r = end-range (describe (s .hash) .core) (d .word-least) (d .word-most) at (omega arith) in
-    (omega (arith, held-most s), omega arith, omega arith)
+    let r = end-range (describe (s .hash) .core) (d .word-least) at (omega arith) in
+    let m = block-most (s .hash) in
+    (omega arith, omega arith, omega arith)
 
 -- the words after them
 pub last-words-is : (s : State) (at end : ℕ) (l : List ℕ) → s .count ≤ mostBytes → at ≡ heldOf s → end ≡ paddedEnd (describe (s .hash) .core) at
@@ -114,22 +120,17 @@ pub last-words-is : (s : State) (at end : ℕ) (l : List ℕ) → s .count ≤ m
     → wordsOf (s .hash) (s .words) l ≡ lastWords s
 last-words-is s at end l h ea ee el =
     let d = described (s .hash) in
-    let p = padding-is (describe (s .hash) .core) (d .word-least) (d .word-most) (s .count) h in
+    let p = padding-is (describe (s .hash) .core) (d .word-least) (s .count) h in
     ap (wordsOf (s .hash) (s .words)) (el ∙ rw (ee, ea) (ap (λ (r : List ℕ). waitingOf s ++ r) (rw (d .block-is) at p)))
 
 -- words as bytes, one word more
-spell-append : (k : ℕ) (a b : List ℕ) → spell k (a ++ b) ≡ spell k a ++ spell k b
+spell-next : (k : ℕ) (ws : List ℕ) (i : ℕ) → i < length ws → spell k (take (suc i) ws) ≡ spell k (take i ws) ++ bytes k (getD ws i 0)
 unfolding spell
-spell-append k [] b = refl
-spell-append k (x ∷ a) b = ap (λ (r : List ℕ). bytes k x ++ r) (spell-append k a b) ∙ sym (append-assoc (bytes k x) (spell k a) (spell k b))
-
-spell-next : (k : ℕ) (ws : List ℕ) (i : ℕ) → i < length ws → spell k (take (i + 1) ws) ≡ spell k (take i ws) ++ bytes k (getD ws i 0)
-unfolding spell
-spell-next k ws i h =
-    ap (λ (n : ℕ). spell k (take n ws)) (add-one i)
-    ∙ ap (spell k) (take-suc ws i 0 h)
-    ∙ spell-append k (take i ws) (getD ws i 0 ∷ [])
-    ∙ ap (λ (r : List ℕ). spell k (take i ws) ++ r) (append-nil (bytes k (getD ws i 0)))
+spell-next k [] i h = absurd (not-suc-le-zero h)
+spell-next k (x ∷ ws) zero h = append-nil (bytes k x)
+spell-next k (x ∷ ws) (suc i) h =
+    ap (λ (r : List ℕ). bytes k x ++ r) (spell-next k ws i (le-of-suc-le-suc h))
+    ∙ sym (append-assoc (bytes k x) (spell k (take i ws)) (bytes k (getD ws i 0)))
 
 -- the last k of a word's eight bytes, as a loan of them has it
 pub word-part : (k x : ℕ) {b : List ℕ} → k ≤ 8 → b ≡ bytes 8 x → take (8 - (8 - k)) (drop (8 - k) b) ≡ bytes k x
@@ -156,32 +157,35 @@ pub start : (k : ℕ) (ws : List ℕ) → Spelled k ws (replicate 64 0) 0
 unfolding spell
 start k ws = record { within = zero-le; size = refl; is = refl }
 
-module _ (k : ℕ) (ws : List ℕ) (small : k ≤ 8) (eight : length ws ≡ 8) where
-  written : (i : ℕ) → i ≤ 8 → length (spell k (take i ws)) ≡ i * k
-  written i h = spell-length k (take i ws) ∙ ap (λ (n : ℕ). n * k) (length-take-le i ws (omega arith))
-
-  pub more : (out p q : List ℕ) (i : ℕ) → Spelled k ws out i → i < 8 → q ≡ bytes k (getD ws i 0) → p ≡ paste out (i * k) q (length q)
-      → Spelled k ws p (i + 1)
-  more out p q i c h eq ep =
+module _ {k : ℕ} {ws : List ℕ} where
+  pub more : {out p q : List ℕ} {i : ℕ} → k ≤ 8 → length ws ≡ 8 → Spelled k ws out i → i < 8 → q ≡ bytes k (getD ws i 0)
+      → p ≡ paste out (i * k) q (length q) → Spelled k ws p (i + 1)
+  more {p = p} {q} {i} small eight c h eq ep =
       let l : List ℕ = spell k (take i ws) in
-      let e : p ≡ zerosTo 64 (spell k (take (i + 1) ws)) =
-      ep
-      ∙ (λ j. paste (c .is j) (sym (written i (omega arith)) j) q (length q))
-      ∙ paste-more 64 l q
-      ∙ ap (zerosTo 64) (ap (λ (r : List ℕ). l ++ r) eq ∙ sym (spell-next k ws i (omega arith)))
-      in
-      let n : length (spell k (take (i + 1) ws)) ≤ 64 = omega (arith, written (i + 1) (omega arith), mul-le-mul-right k h) in
-      record { within = omega arith; size = ap length e ∙ zeros-length 64 (spell k (take (i + 1) ws)) n; is = e }
+      let n : length l ≡ i * k = spell-length k (take i ws) ∙ ap (λ (j : ℕ). j * k) (length-take-le i ws (omega arith)) in
+      let e : p ≡ zerosTo 64 (l ++ q) = ep ∙ (λ j. paste (c .is j) (sym n j) q (length q)) ∙ paste-more 64 l q in
+      let lq : length q ≡ k = ap length eq ∙ bytes-length k (getD ws i 0) in
+      let fits : length (l ++ q) ≤ 64 = omega (arith, length-append l q, mul-le-mul-right k h) in
+      record {
+        within = omega arith;
+        size = ap length e ∙ zeros-length 64 (l ++ q) fits;
+        is =
+            e
+            ∙ ap (zerosTo 64)
+            (ap (λ (r : List ℕ). l ++ r) eq ∙ sym (spell-next k ws i (omega arith)) ∙ ap (λ (j : ℕ). spell k (take j ws)) (sym (add-one i)));
+      }
 
-  pub all : (out : List ℕ) (i : ℕ) → Spelled k ws out i → i ≡ 8 → out ≡ zerosTo 64 (spell k ws)
-  all out i c e = c .is ∙ ap (λ (l : List ℕ). zerosTo 64 (spell k l)) (take-all i ws (omega arith))
+  pub all : {out : List ℕ} {i : ℕ} → length ws ≡ 8 → Spelled k ws out i → 8 ≤ i → out ≡ zerosTo 64 (spell k ws)
+  all {i = i} eight c e = c .is ∙ ap (λ (l : List ℕ). zerosTo 64 (spell k l)) (take-all i ws (omega arith))
 
 -- what the output takes of them is the digest
-pub kept-over : (h : Hash) (ws out : List ℕ) → length ws ≡ 8 → length out ≡ sizeOf h
-    → over (zerosTo 64 (spell (wordSize (describe h .core)) ws)) out ≡ keep (describe h) ws
+pub digest-over : (s : State) (ws out : List ℕ) → length ws ≡ 8 → length out ≡ sizeOf (s .hash) → ws ≡ lastWords s
+    → over (zerosTo 64 (spell (wordSize (describe (s .hash) .core)) ws)) out ≡ endOf s
 unfolding keep
-kept-over h ws out e n =
-    let w : ℕ = wordSize (describe h .core) in
-    let d = described h in
+digest-over s ws out e n f =
+    let w : ℕ = wordSize (describe (s .hash) .core) in
+    let d = described (s .hash) in
     let l : length (spell w ws) ≡ 8 * w = spell-length w ws ∙ ap (λ (n : ℕ). n * w) e in
-    over-buffer 64 (describe h .kept) (spell w ws) out (n ∙ sym (d .kept-is)) (omega arith) (omega arith)
+    over-buffer 64 (describe (s .hash) .kept) (spell w ws) out (n ∙ sym (d .kept-is)) (omega arith) (omega arith)
+    ∙ ap (keep (describe (s .hash))) f
+    ∙ sym (end-is s)

@@ -17,7 +17,7 @@ use algorithm::Hash;
 
 // The bytes of a word, of which a block has sixteen.
 fn word_size(hash: Hash) -> usize
-    ensures { λ r. ⌜ r ≡ wordSize (describe hash .core) ⌝ }
+    ensures { λ r. ⌜ (r ≡ wordSize (describe hash .core)) × (r ≤ 8) ⌝ }
 {
     algorithm::block_size(hash) / 16
 }
@@ -27,12 +27,12 @@ fn padded_end(hash: Hash, at: usize) -> usize
     requires { ⌜ at < blockOf hash ⌝ }
     ensures { λ r. ⌜ r ≡ paddedEnd (describe hash .core) at ⌝ }
 {
-    let size = algorithm::block_size(hash);
-    let field = 2 * word_size(hash);
-    if at + 1 + field <= size {
+    let word = word_size(hash);
+    let size = 16 * word;
+    if at + 1 + 2 * word <= size {
         return size;
     }
-    size + size
+    2 * size
 }
 
 // The waiting bytes with the padding behind them, up to `end`. The length is below 2^64, so its last eight bytes say it all.
@@ -63,13 +63,13 @@ fn last_words(state: State) -> [u64; 8]
     crate::blocks::words_after(hash, words, &last[..end])
 }
 
-// The bytes of the words, `size` for each, with zeros after them.
-fn spelled(size: usize, words: [u64; 8]) -> [u8; 64]
-    requires { ⌜ size ≤ 8 ⌝ }
-    ensures { λ r. ⌜ r ≡ zerosTo 64 (spell size words) ⌝ }
+// The bytes of the words, with zeros after them.
+fn spelled(hash: Hash, words: [u64; 8]) -> [u8; 64]
+    ensures { λ r. ⌜ r ≡ zerosTo 64 (spell (wordSize (describe hash .core)) words) ⌝ }
 {
-    let mut out = [0u8; 64];
+    let size = word_size(hash);
     let from = 8 - size;
+    let mut out = [0u8; 64];
     let mut i: usize = 0;
     while i < 8 {
         let word = octets::eight_bytes(words[i]);
@@ -94,8 +94,7 @@ pub fn finish(state: State, out: &mut [u8]) -> u32
         return algorithm::WRONG_SIZE;
     }
     let words = last_words(state);
-    let word = word_size(hash);
-    let bytes = spelled(word, words);
+    let bytes = spelled(hash, words);
     octets::copy_prefix(&bytes, out);
     algorithm::DONE
 }

@@ -1,26 +1,25 @@
 -- Work in pieces opened, for this crate's own proofs alone: the definitions as the code goes. Assumes nothing.
-use mathlib.Core.Path.{_≡_, refl, sym, ap, _∙_}
+use mathlib.Core.Path.{_≡_, refl, ap, _∙_}
 use mathlib.Core.Bool.{true, false}
 use mathlib.Core.List.{List, [], _++_}
-use Prim.Native.Nat.{ℕ, _+_, _-_, _^_, _≤_, _<_}
+use Prim.Native.Nat.{ℕ, _+_, _-_, _≤_, _<_}
 use native.Mathlib.Omega.{arith}
-use lib.Dec.{eqb, ltb}
+use lib.Dec.{eqb}
 use lib.ListN.{length, take, drop, replicate, length-append, length-drop}
 use lib.Seq.{take-length, drop-drop, length-take-le, paste}
 use borrow.Author.Tests.{le-leb, lt-leb}
 use Rattle.algorithm.specs.Hashes.Laws.{block-positive}
-use Rattle.octets.specs.Every.{every, allZero}
+use Rattle.octets.specs.Every.{allZero}
 use Rattle.octets.specs.Every.Laws.{every-drop, all-zeros}
 use Rattle.octets.specs.Parts.{part-all}
 use Rattle.algorithm.specs.declared.hashes.Hash.{Hash}
 use Rattle.algorithm.specs.declared.hashes.Hash.the-variants.{Sha256}
 use Rattle.algorithm.specs.Hashes.{blockOf}
 use Rattle.algorithm.specs.Refusals.{mostBytes}
-use Rattle.hash.specs.Description.{Core, describe}
-use Rattle.hash.specs.Blocks.{leftOver, wordsAfter}
+use Rattle.hash.specs.Description.{describe}
+use Rattle.hash.specs.Blocks.{leftOver}
 use Rattle.hash.specs.Blocks.Laws.{left-short, words-short, left-filled, words-filled}
-use Rattle.hash.specs.Sha2.{blockSize, step, keep}
-use Rattle.hash.specs.Digest.Laws.{described}
+use Rattle.hash.specs.Sha2.{step, keep}
 use Rattle.hash.specs.State.{places, heldOf, waitingOf, fit, wordsOf, placed, lastWords, soundOf, freshOf, zeroState, afterOf, endOf}
 use Rattle.hash.specs.State.Laws.{waiting-length, sound-zeros}
 use Rattle.hash.specs.Inside.{Fills, withWaiting}
@@ -51,16 +50,6 @@ module _ (s : State) where
   pub sound-by-words : s .count ≤ mostBytes → allZero (drop (heldOf s) (s .waiting)) ≡ true → soundOf s ≡ fit (s .hash) (s .words)
   unfolding soundOf
   sound-by-words h e = rw (le-leb (s .count) mostBytes h, e)
-
--- what goes by the hash goes by its core
-module _ (h : Hash) (C : Core) (e : describe h .core ≡ C) (ws : List ℕ) where
-  pub fit-by-core : fit h ws ≡ every (λ x. ltb x (2 ^ (C .width))) ws
-  fit-by-core = ap (λ (D : Core). every (λ x. ltb x (2 ^ (D .width))) ws) e
-
-  pub words-by-core : (l : List ℕ) → wordsAfter (blockSize C) (step C) ws l ≡ wordsOf h ws l
-  words-by-core l =
-      ap (λ (D : Core). wordsAfter (blockSize D) (step D) ws l) (sym e)
-      ∙ ap (λ (B : ℕ). wordsAfter B (step (describe h .core)) ws l) (described h .block-is)
 
 -- a piece where nothing waits, from what the callees of `straight` gave
 pub straight-after : (s : State) (p : List ℕ) (size : ℕ) (after left : List ℕ) → heldOf s ≡ 0 → size ≡ blockOf (s .hash)

@@ -1,32 +1,26 @@
 -- `hash::blocks::words_after` goes by the width. Assumes nothing.
-use mathlib.Core.Path.{sym, ap, _∙_}
 use borrow.Author.Needs.{needs}
-use denote.Ref.{now}
-use Rattle.hash.specs.Description.{narrow, wide, coreOf}
-use Rattle.hash.specs.State.Open.{fit-by-core, words-by-core}
+use Rattle.hash.specs.Description.{narrow, coreOf}
+use Rattle.hash.specs.Digest.Laws.{described}
 use Rattle.hash.proofs.blocks.words_after.Statement.{statement}
 use Rattle.hash.proofs.blocks.words_after.Tie as tie
 
 after-narrow-requires : tie.Need-after-narrow-requires
 unfolding coreOf narrow
 after-narrow-requires c κs =
-    let start = c .before .before .before .before .before .before in
-    let core = c .before .before .before .width-of .ensures ∙ ap coreOf (c .before .enum-told .given .1) in
-    (sym (fit-by-core (start .args .hash) narrow core (start .args .words)) ∙ start .pre, search needs)
+    (rw (c .before .before .before .width-of .ensures, c .before .enum-told .given .1) at (c .before .before .before .before .before .before .pre), search needs)
 
 returns : tie.Need-returns
 unfolding coreOf
 returns c =
-    let start = c .before .before .before .before .before .before .before in
-    let core = c .before .before .before .before .width-of .ensures ∙ ap coreOf (c .before .before .enum-told .given .1) in
-    c .after-narrow .ensures ∙ words-by-core (start .args .hash) narrow core (start .args .words) (now (start .args .bytes))
+    let hash = c .before .before .before .before .before .before .before .args .hash in
+    rw (← described hash .block-is, c .before .before .before .before .width-of .ensures, c .before .before .enum-told .given .1) (c .after-narrow .ensures)
 
 returns-2 : tie.Need-returns-2
 unfolding coreOf
 returns-2 c =
-    let start = c .before .before .before .before .before .before .before in
-    let core = c .before .before .before .before .width-of .ensures ∙ ap coreOf (c .before .before .enum-told2 .given .1) in
-    c .after-blocks .ensures ∙ words-by-core (start .args .hash) wide core (start .args .words) (now (start .args .bytes))
+    let hash = c .before .before .before .before .before .before .before .args .hash in
+    rw (← described hash .block-is, c .before .before .before .before .width-of .ensures, c .before .before .enum-told2 .given .1) (c .after-blocks .ensures)
 
 pub words-after-spec : {M : Type 1} → statement M
 words-after-spec =

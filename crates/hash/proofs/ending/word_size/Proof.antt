@@ -8,7 +8,7 @@ use Rattle.hash.proofs.ending.word_size.Tie as tie
 
 returns : tie.Need-returns
 unfolding blockSize
-returns c = omega (arith, c .block-size .ensures, described (c .before .args .hash) .block-is)
+returns c = let d = described (c .before .args .hash) in (omega (arith, c .block-size .ensures), omega (arith, c .block-size .ensures))
 
 pub word-size-spec : {M : Type 1} → statement M
 word-size-spec = tie.close (tie.spec (λ c κs. search needs) returns)
