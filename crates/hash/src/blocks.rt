@@ -10,10 +10,6 @@ ghost use mathlib.Core.Bool.{true};
 ghost use Prim.Native.Nat.{_^_};
 ghost use lib.Dec.{ltb};
 ghost use Rattle.octets.specs.Every.{every};
-ghost use Rattle.hash.specs.Table.{k64};
-ghost use Rattle.hash.specs.Description.{narrow};
-ghost use Rattle.hash.specs.Blocks.{wordsAfter};
-ghost use Rattle.hash.specs.Sha2.{blockSize, step};
 ghost use Rattle.hash.specs.State.{fit, wordsOf};
 
 // The same words in 32 bits each, which they fit.
@@ -39,15 +35,6 @@ fn widened(words: [u32; 8]) -> [u64; 8]
     out
 }
 
-fn after_narrow(words: [u64; 8], bytes: &[u8], k: &[u64; 80]) -> [u64; 8]
-    requires { ⌜ (every (λ x. ltb x (2 ^ 32)) words ≡ true) × (now k ≡ k64) ⌝ }
-    ensures { λ r. ⌜ r ≡ wordsAfter (blockSize narrow) (step narrow) words (now (bytes .entry)) ⌝ }
-{
-    let start = narrowed(words);
-    let end = narrow::after_blocks(start, bytes, k);
-    widened(end)
-}
-
 // The chaining words after every whole block of the bytes. The table is named here, once, and lent to all blocks.
 pub(crate) fn words_after(hash: Hash, words: [u64; 8], bytes: &[u8]) -> [u64; 8]
     requires { ⌜ fit hash words ≡ true ⌝ }
@@ -56,7 +43,11 @@ pub(crate) fn words_after(hash: Hash, words: [u64; 8], bytes: &[u8]) -> [u64; 8]
     let k = table();
     let width = width_of(hash);
     match width {
-        Width::Narrow => after_narrow(words, bytes, &k),
+        Width::Narrow => {
+            let start = narrowed(words);
+            let end = narrow::after_blocks(start, bytes, &k);
+            widened(end)
+        }
         Width::Wide => wide::after_blocks(words, bytes, &k),
     }
 }
