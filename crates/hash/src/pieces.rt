@@ -8,9 +8,9 @@ ghost use lib.ListN.{length, take};
 ghost use lib.Seq.{paste};
 ghost use Rattle.algorithm.specs.Refusals.{mostBytes};
 ghost use Rattle.hash.specs.Blocks.{leftOver};
-ghost use Rattle.hash.specs.State.{places, heldOf, fit, wordsOf, placed, afterOf};
+ghost use Rattle.hash.specs.State.{places, fit, wordsOf, placed, afterOf};
 ghost use Rattle.hash.specs.Calls.{UpdateOutcome};
-ghost use Rattle.hash.specs.Inside.{withWaiting, Takes, Fills};
+ghost use Rattle.hash.specs.Inside.{withWaiting, onwardOf, Takes, Fills};
 use crate::state::Fed;
 use crate::state::PLACES;
 use crate::state::State;
@@ -59,45 +59,33 @@ fn topped_up(
     crate::blocks::words_after(hash, words, &block[..end])
 }
 
-// The state after a piece that fills a block, of which it takes the first `room` bytes.
-fn filled(state: State, room: usize, piece: &[u8]) -> State
-    requires { ⌜ Fills state room (now piece) ⌝ }
-    ensures { λ r. ⌜ r ≡ afterOf state (now (piece .entry)) ⌝ }
+// The state that goes on from these words with bytes where nothing waits, at this count.
+fn onward(hash: Hash, words: [u64; 8], count: u64, bytes: &[u8]) -> State
+    requires { ⌜ fit hash words ≡ true ⌝ }
+    ensures { λ r. ⌜ r ≡ onwardOf hash words count (now (bytes .entry)) ⌝ }
 {
-    let hash = state.hash;
     let size = algorithm::block_size(hash);
-    let at = size - room;
-    let words = state.words;
-    let waiting = state.waiting;
-    let topped = topped_up(hash, words, waiting, at, &piece[..room]);
-    let rest = &piece[room..];
-    let after = crate::blocks::words_after(hash, topped, rest);
-    let left = left_over(size, rest);
+    let after = crate::blocks::words_after(hash, words, bytes);
+    let left = left_over(size, bytes);
     State {
         hash,
         words: after,
-        count: state.count + piece.len() as u64,
+        count,
         waiting: left,
     }
 }
 
-// The state after a piece that comes where nothing waits.
-fn straight(state: State, piece: &[u8]) -> State
-    requires { ⌜ Takes state (now piece) ⌝ }
-    requires { ⌜ heldOf state ≡ 0 ⌝ }
+// The state after a piece that fills the block that waits, of which it takes the first `room` bytes.
+fn filled(state: State, at: usize, room: usize, piece: &[u8]) -> State
+    requires { ⌜ Fills state at room (now piece) ⌝ }
     ensures { λ r. ⌜ r ≡ afterOf state (now (piece .entry)) ⌝ }
 {
     let hash = state.hash;
-    let size = algorithm::block_size(hash);
     let words = state.words;
-    let after = crate::blocks::words_after(hash, words, piece);
-    let left = left_over(size, piece);
-    State {
-        hash,
-        words: after,
-        count: state.count + piece.len() as u64,
-        waiting: left,
-    }
+    let waiting = state.waiting;
+    let topped = topped_up(hash, words, waiting, at, &piece[..room]);
+    let count = state.count + piece.len() as u64;
+    onward(hash, topped, count, &piece[room..])
 }
 
 // The state after a piece that is taken.
@@ -113,9 +101,11 @@ fn taken(state: State, piece: &[u8]) -> State
         return kept(state, at, piece);
     }
     if at == 0 {
-        return straight(state, piece);
+        let words = state.words;
+        let count = state.count + piece.len() as u64;
+        return onward(hash, words, count, piece);
     }
-    filled(state, room, piece)
+    filled(state, at, room, piece)
 }
 
 // The state after one piece more; 10 where the state is not sound, 4 where the bytes would be too many. A refusal hands the given

@@ -17,12 +17,11 @@ use Rattle.algorithm.specs.declared.hashes.Hash.the-variants.{Sha256}
 use Rattle.algorithm.specs.Hashes.{blockOf}
 use Rattle.algorithm.specs.Refusals.{mostBytes}
 use Rattle.hash.specs.Description.{describe}
-use Rattle.hash.specs.Blocks.{leftOver}
 use Rattle.hash.specs.Blocks.Laws.{left-short, words-short, left-filled, words-filled}
 use Rattle.hash.specs.Sha2.{step, keep}
-use Rattle.hash.specs.State.{places, heldOf, waitingOf, fit, wordsOf, placed, lastWords, soundOf, freshOf, zeroState, afterOf, endOf}
+use Rattle.hash.specs.State.{places, heldOf, waitingOf, fit, wordsOf, lastWords, soundOf, freshOf, zeroState, afterOf, endOf}
 use Rattle.hash.specs.State.Laws.{waiting-length, sound-zeros}
-use Rattle.hash.specs.Inside.{Fills, withWaiting}
+use Rattle.hash.specs.Inside.{Fills, withWaiting, onwardOf}
 use Rattle.hash.specs.declared.state.State.{State}
 
 pub fresh-is : (h : Hash) → freshOf h ≡ record { hash = h; words = describe h .first; count = 0; waiting = replicate places 0 }
@@ -51,14 +50,12 @@ module _ (s : State) where
   unfolding soundOf
   sound-by-words h e = rw (le-leb (s .count) mostBytes h, e)
 
--- a piece where nothing waits, from what the callees of `straight` gave
-pub straight-after : (s : State) (p : List ℕ) (size : ℕ) (after left : List ℕ) → heldOf s ≡ 0 → size ≡ blockOf (s .hash)
-    → after ≡ wordsOf (s .hash) (s .words) p → left ≡ placed (leftOver size p)
-    → _≡_ {A = State} (record { hash = s .hash; words = after; count = s .count + length p; waiting = left }) (afterOf s p)
+-- a piece where nothing waits
+pub straight-after : (s : State) (p : List ℕ) → heldOf s ≡ 0 → onwardOf (s .hash) (s .words) (s .count + length p) p ≡ afterOf s p
 unfolding afterOf
-straight-after s p size after left z es ea el =
+straight-after s p z =
     let w : waitingOf s ≡ [] = ap (λ (k : ℕ). take k (s .waiting)) z in
-    rw (ea, el, es, w)
+    rw w
 
 -- a piece that fills no block
 pub kept-after : (s : State) (p : List ℕ) → length (s .waiting) ≡ places → soundOf s ≡ true → heldOf s + length p < blockOf (s .hash)
@@ -78,27 +75,16 @@ kept-after s p l h short =
     in
     rw (words-short (blockOf (s .hash)) (step (describe (s .hash) .core)) (s .words) (waitingOf s ++ p) lt, left-short (blockOf (s .hash)) (waitingOf s ++ p) lt, take-length p, e)
 
--- a piece that fills a block, from what the callees of `filled` gave
-pub filled-after : (s : State) (p : List ℕ) (room size : ℕ) (topped after left : List ℕ) → length (s .waiting) ≡ places → Fills s room p
-    → size ≡ blockOf (s .hash)
-    → topped ≡ wordsOf (s .hash) (s .words) (take (size - room) (s .waiting) ++ take room p)
-    → after ≡ wordsOf (s .hash) topped (take (length p - room) (drop room p))
-    → left ≡ placed (leftOver size (take (length p - room) (drop room p)))
-    → _≡_ {A = State} (record { hash = s .hash; words = after; count = s .count + length p; waiting = left }) (afterOf s p)
+-- a piece that fills the block that waits, from the words after that block
+pub filled-after : (s : State) (at room : ℕ) (p topped : List ℕ) → length (s .waiting) ≡ places → Fills s at room p
+    → topped ≡ wordsOf (s .hash) (s .words) (take at (s .waiting) ++ take room p)
+    → onwardOf (s .hash) topped (s .count + length p) (take (length p - room) (drop room p)) ≡ afterOf s p
 unfolding afterOf
-filled-after s p room size topped after left l h es et ea el =
+filled-after s at room p topped l h et =
     let B = blockOf (s .hash) in
-    let at : size - room ≡ heldOf s = omega (arith, h .fills) in
     let d : take (length p - room) (drop room p) ≡ drop room p = part-all p (length p) room refl in
     let n : length (waitingOf s ++ take room p) ≡ B =
-    omega (arith, length-append (waitingOf s) (take room p), waiting-length s l, length-take-le room p (h .within), h .fills)
+    omega (arith, length-append (waitingOf s) (take room p), waiting-length s l, length-take-le room p (h .within), h .fills, h .held)
     in
-    let u : topped ≡ wordsOf (s .hash) (s .words) (waitingOf s ++ take room p) = rw at at et in
-    let v : after ≡ wordsOf (s .hash) (s .words) (waitingOf s ++ p) =
-    ea ∙ cc (u, d, words-filled B (step (describe (s .hash) .core)) (s .words) (waitingOf s) p room (block-positive (s .hash)) n)
-    in
-    let r : leftOver size (take (length p - room) (drop room p)) ≡ leftOver B (waitingOf s ++ p) =
-    cc (d, es, left-filled B (waitingOf s) p room (block-positive (s .hash)) n)
-    in
-    let t : left ≡ placed (leftOver B (waitingOf s ++ p)) = el ∙ ap placed r in
-    rw (v, t)
+    let t : topped ≡ wordsOf (s .hash) (s .words) (waitingOf s ++ take room p) = rw (h .held) at et in
+    rw (d, t, ← words-filled B (step (describe (s .hash) .core)) (s .words) (waitingOf s) p room (block-positive (s .hash)) n, ← left-filled B (waitingOf s) p room (block-positive (s .hash)) n)

@@ -3,9 +3,10 @@ use mathlib.Core.Path.{_≡_, sym, _∙_}
 use native.Mathlib.Omega.{arith}
 use lib.ListN.{length, length-map}
 use borrow.Author.Needs.{needs}
+use denote.Ref.{now}
 use Rattle.algorithm.specs.Hashes.Laws.{block-most}
 use Rattle.hash.specs.State.Laws.{held-less, sound-words}
-use Rattle.hash.specs.State.Open.{kept-after}
+use Rattle.hash.specs.State.Open.{kept-after, straight-after}
 use Rattle.hash.proofs.pieces.taken.Statement.{statement}
 use Rattle.hash.proofs.pieces.taken.Tie as tie
 
@@ -28,10 +29,16 @@ returns c =
     ∙ rw held
     (kept-after s (start .args .piece .now) w (start .pre .sound) (omega (arith, held, c .before .before .before .block-size .ensures, held-less s)))
 
-straight-requires : tie.Need-straight-requires
-straight-requires c κs =
-    let start = c .before .before .before .before .before in
-    (record { sound = start .pre .sound; fits = start .pre .fits }, sym (c .before .before .held .ensures) ∙ c .if2 .taken)
+onward-requires : tie.Need-onward-requires
+onward-requires c κs =
+    let start = c .before .before .before .before .before .before .before in
+    sound-words (start .args .state) (start .pre .sound)
+
+returns-2 : tie.Need-returns-2
+returns-2 c =
+    let start = c .before .before .before .before .before .before .before .before in
+    c .onward .ensures
+    ∙ straight-after (start .args .state) (now (start .args .piece)) (sym (c .before .before .before .before .before .held .ensures) ∙ c .before .before .before .if2 .taken)
 
 filled-requires : tie.Need-filled-requires
 filled-requires c κs =
@@ -40,10 +47,10 @@ filled-requires c κs =
     let a = c .before .before .held .ensures in
     let b = c .before .before .before .block-size .ensures in
     let l = held-less s in
-    record { fills = omega arith; within = omega arith; fits = start .pre .fits; words = sound-words s (start .pre .sound) }
+    record { held = a; fills = omega arith; within = omega arith; fits = start .pre .fits; words = sound-words s (start .pre .sound) }
 
 pub taken-spec : {M : Type 1} → statement M
 taken-spec =
     tie.close
-    (tie.spec (λ c κs. search needs) (λ c κs. search needs) sub-room kept-requires returns straight-requires (λ c. search needs) filled-requires
+    (tie.spec (λ c κs. search needs) (λ c κs. search needs) sub-room kept-requires returns (λ c. search needs) onward-requires returns-2 filled-requires
     (λ c. search needs))
