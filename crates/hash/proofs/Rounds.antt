@@ -17,7 +17,7 @@ pub k64-at : {k : List ℕ} (t : ℕ) → k ≡ k64 → getD k t 0 ≡ getD k64 
 k64-at t e = ap (λ (l : List ℕ). getD l t 0) e
 
 pub k32-at : {k : List ℕ} (t : ℕ) {x : ℕ} → k ≡ k64 → t < 64 → x ≡ upper (getD k t 0) → x ≡ getD k32 t 0
-unfolding k32 upper
+unfolding k32
 k32-at t e h f =
     f ∙ ap upper (k64-at t e) ∙ sym (List·getD-map upper (take 64 k64) t 0 ∙ ap upper (getD-take 64 k64 t 0 h))
 

@@ -34,7 +34,7 @@ first64 =
     0x510e527fade682d1 ∷ 0x9b05688c2b3e6c1f ∷ 0x1f83d9abfb41bd6b ∷ 0x5be0cd19137e2179 ∷ []
 
 -- the upper 32 bits of a 64-bit word
-unfoldable pub upper : ℕ → ℕ
+abbrev pub upper : ℕ → ℕ
 upper x = x / 2 ^ 32
 
 -- K for SHA-256

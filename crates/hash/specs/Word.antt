@@ -4,11 +4,11 @@ use Prim.Native.Nat.{ℕ, _+_, _-_, _*_, _/_, _%_, _^_}
 use lib.Bits.{bitAnd, bitXor}
 
 -- the sum modulo 2 ^ w
-unfoldable pub add : ℕ → ℕ → ℕ → ℕ
+abbrev pub add : ℕ → ℕ → ℕ → ℕ
 add w x y = (x + y) % 2 ^ w
 
 -- every bit turned
-unfoldable pub complement : ℕ → ℕ → ℕ
+abbrev pub complement : ℕ → ℕ → ℕ
 complement w x = 2 ^ w - 1 - x
 
 -- SHR: the n lowest bits fall away
@@ -20,11 +20,11 @@ unfoldable pub rotr : ℕ → ℕ → ℕ → ℕ
 rotr w n x = x % 2 ^ n * 2 ^ (w - n) + x / 2 ^ n
 
 -- (x and y) ^ (not x and z)
-unfoldable pub ch : ℕ → ℕ → ℕ → ℕ → ℕ
+abbrev pub ch : ℕ → ℕ → ℕ → ℕ → ℕ
 ch w x y z = bitXor (bitAnd x y) (bitAnd (complement w x) z)
 
 -- (x and y) ^ (x and z) ^ (y and z)
-unfoldable pub maj : ℕ → ℕ → ℕ → ℕ
+abbrev pub maj : ℕ → ℕ → ℕ → ℕ
 maj x y z = bitXor (bitXor (bitAnd x y) (bitAnd x z)) (bitAnd y z)
 
 -- three amounts

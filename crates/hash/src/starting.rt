@@ -1,6 +1,7 @@
 // The start of work in pieces.
 ghost use mathlib.Core.Path.{_≡_};
-ghost use Rattle.hash.specs.State.{freshOf, zeroState};
+ghost use lib.ListN.{replicate};
+ghost use Rattle.hash.specs.State.{from, freshOf};
 ghost use Rattle.hash.specs.Calls.{StartOutcome};
 use crate::state::PLACES;
 use crate::state::Started;
@@ -24,7 +25,7 @@ fn fresh(hash: Hash) -> State
 
 // What a refused start hands back: zeros that name hash 1.
 fn zeros() -> State
-    ensures { λ r. ⌜ r ≡ zeroState ⌝ }
+    ensures { λ r. ⌜ r ≡ from Hash.Sha256 (replicate 8 0) ⌝ }
 {
     let words = [0u64; 8];
     let waiting = [0u8; PLACES];

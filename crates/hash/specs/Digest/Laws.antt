@@ -12,7 +12,7 @@ use Rattle.octets.specs.Every.{every}
 use Rattle.algorithm.specs.declared.hashes.Hash.{Hash}
 use Rattle.algorithm.specs.declared.hashes.Hash.the-variants.{Sha256, Sha512}
 use Rattle.algorithm.specs.Hashes.{blockOf, sizeOf}
-use Rattle.hash.specs.Table.{first64, first32, upper}
+use Rattle.hash.specs.Table.{first64, first32}
 use Rattle.hash.specs.Description.{Core, describe, narrow, wide}
 use Rattle.hash.specs.Blocks.Laws.{Sized}
 use Rattle.hash.specs.Sha2.{wordSize, blockSize, fieldSize, zeros, step, spell, keep, digest, digestFrom, blocks}
@@ -32,7 +32,7 @@ pub record Described (h : Hash) : Type 0 where
   pub first-fits : every (λ x. ltb x (2 ^ (describe h .core .width))) (describe h .first) ≡ true
 
 pub described : (h : Hash) → Described h
-unfolding blockSize every describe narrow wide first32 first64 upper
+unfolding blockSize every describe narrow wide first32 first64
 described Sha256 =
     record { block-is = refl; kept-is = refl; word-least = lit≤ tt; word-most = lit≤ tt; kept-most = lit≤ tt; first-eight = refl; first-fits = refl }
 described Sha512 =

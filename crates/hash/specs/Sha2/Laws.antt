@@ -23,7 +23,6 @@ module _ (C : Core) where
   step-length h b = refl
 
   sum-fits : (x y : ℕ) → ltb (add (C .width) x y) (2 ^ (C .width)) ≡ true
-  unfolding add
   sum-fits x y = lt-ltb _ _ (mod-lt (x + y) (pow-pos (C .width)))
 
   pub step-fits : (h b : List ℕ) → every (λ x. ltb x (2 ^ (C .width))) (step C h b) ≡ true

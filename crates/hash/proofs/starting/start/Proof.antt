@@ -4,6 +4,7 @@ use borrow.Author.Needs.{needs}
 use Rattle.algorithm.specs.Hashes.Laws.{which-unknown, which-is}
 use Rattle.algorithm.specs.Refusals.{done, unknownHash}
 use Rattle.hash.specs.State.{freshOf}
+use Rattle.hash.specs.State.Open.{zero-is}
 use Rattle.hash.specs.Calls.Laws.{start-accepted, start-refused, started}
 use Rattle.hash.proofs.starting.start.Statement.{statement}
 use Rattle.hash.proofs.starting.start.Tie as tie
@@ -11,7 +12,7 @@ use Rattle.hash.proofs.starting.start.Tie as tie
 returns : tie.Need-returns
 returns c =
     let n = c .before .before .before .before .args .number in
-    ap (started unknownHash) (c .zeros .ensures)
+    ap (started unknownHash) (c .zeros .ensures ∙ sym zero-is)
     ∙ sym (start-refused n (which-unknown n (sym (c .before .before .before .which .ensures) ∙ c .before .enum-told .given .1)))
 
 returns-2 : tie.Need-returns-2

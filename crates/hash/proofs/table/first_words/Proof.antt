@@ -1,12 +1,12 @@
 -- `hash::table::first_words` are the definition's first words. Assumes nothing.
 use borrow.Author.Needs.{needs}
-use Rattle.hash.specs.Table.{first64, first32, upper}
+use Rattle.hash.specs.Table.{first64, first32}
 use Rattle.hash.specs.Description.{describe}
 use Rattle.hash.proofs.table.first_words.Statement.{statement}
 use Rattle.hash.proofs.table.first_words.Tie as tie
 
 returns : tie.Need-returns
-unfolding describe first32 first64 upper
+unfolding describe first32 first64
 returns c = rw (c .enum-told .given .1)
 
 returns-2 : tie.Need-returns-2
