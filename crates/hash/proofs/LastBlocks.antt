@@ -157,6 +157,10 @@ pub start : (k : ℕ) (ws : List ℕ) → Spelled k ws (replicate 64 0) 0
 unfolding spell
 start k ws = record { within = zero-le; size = refl; is = refl }
 
+-- each word has its place
+pub room : (k i : ℕ) → k ≤ 8 → i < 8 → i * k + k ≤ 64
+room k i s h = omega (arith, mul-le-mul-right k h)
+
 module _ {k : ℕ} {ws : List ℕ} where
   pub more : {out p q : List ℕ} {i : ℕ} → k ≤ 8 → length ws ≡ 8 → Spelled k ws out i → i < 8 → q ≡ bytes k (getD ws i 0)
       → p ≡ paste out (i * k) q (length q) → Spelled k ws p (i + 1)
@@ -165,7 +169,7 @@ module _ {k : ℕ} {ws : List ℕ} where
       let n : length l ≡ i * k = spell-length k (take i ws) ∙ ap (λ (j : ℕ). j * k) (length-take-le i ws (omega arith)) in
       let e : p ≡ zerosTo 64 (l ++ q) = ep ∙ (λ j. paste (c .is j) (sym n j) q (length q)) ∙ paste-more 64 l q in
       let lq : length q ≡ k = ap length eq ∙ bytes-length k (getD ws i 0) in
-      let fits : length (l ++ q) ≤ 64 = omega (arith, length-append l q, mul-le-mul-right k h) in
+      let fits : length (l ++ q) ≤ 64 = omega (arith, length-append l q, room k i small h) in
       record {
         within = omega arith;
         size = ap length e ∙ zeros-length 64 (l ++ q) fits;

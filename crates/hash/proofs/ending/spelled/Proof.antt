@@ -1,13 +1,12 @@
 -- `hash::ending::spelled`: one word a turn. Assumes nothing.
 use mathlib.Core.Path.{ap, _∙_}
 use Prim.Native.Nat.{ℕ, _-_}
-use native.Mathlib.Nat.{mul-le-mul-right}
 use native.Mathlib.Omega.{arith}
 use borrow.Author.Needs.{needs}
 use Rattle.octets.specs.Zeros.{zerosTo}
 use Rattle.octets.specs.Number.Laws.{bytes-length}
 use Rattle.hash.specs.Sha2.{spell}
-use Rattle.hash.proofs.LastBlocks.{Spelled, start, more, all, word-part}
+use Rattle.hash.proofs.LastBlocks.{word-part, room, Spelled, start, more, all}
 use Rattle.hash.proofs.ending.spelled.Statement.{statement}
 use Rattle.hash.proofs.ending.spelled.Tie as tie
 
@@ -18,12 +17,14 @@ abbrev μ-loop : tie.MeasureT-loop
 μ-loop words size from out₀ i₀ out i = 8 - i
 
 mul-put-at : tie.Need-mul-put-at Inv-loop μ-loop
-mul-put-at c = omega (arith, mul-le-mul-right (c .before .before .before .before .word-size .result) (c .before .before .loop-test .taken))
+mul-put-at c =
+    let size = c .before .before .before .before .word-size in
+    omega (arith, room (size .result) (c .before .before .before .loop .i) (size .ensures .1) (omega arith))
 
 put-at-requires : tie.Need-put-at-requires Inv-loop μ-loop
 put-at-requires c κs =
     let size = c .before .before .before .before .before .before .word-size in
-    let b = mul-le-mul-right (size .result) (c .before .before .before .before .loop-test .taken) in
+    let b = room (size .result) (c .before .before .before .before .before .loop .i) (size .ensures .1) (omega arith) in
     rw (word-part (size .result) _ (size .ensures .1) (c .before .before .before .eight-bytes .ensures), bytes-length) (omega arith)
 
 loop-again : tie.Need-loop-again Inv-loop μ-loop
