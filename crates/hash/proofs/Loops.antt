@@ -20,6 +20,9 @@ pub record Written (front : ℕ → List ℕ) (m n : ℕ) (out : List ℕ) (i : 
   pub size : length out ≡ n
   pub is : take i out ≡ front i
 
+pub none : {front : ℕ → List ℕ} {m n : ℕ} {out : List ℕ} → length out ≡ n → [] ≡ front 0 → Written front m n out 0
+none s e = record { within = zero-le; size = s; is = e }
+
 module _ {front : ℕ → List ℕ} {m n : ℕ} {out : List ℕ} {i : ℕ} (c : Written front m n out i) where
   pub more : (x : ℕ) → i < m → i < n → front (i + 1) ≡ front i ++ (x ∷ []) → Written front m n (set out i x) (i + 1)
   more x h k e =

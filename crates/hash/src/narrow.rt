@@ -1,10 +1,11 @@
 // The block step on words of 32 bits (FIPS 180-4, sections 4.1.2 and 6.2.2), and the words after all whole blocks of a slice.
 use crate::table::upper;
 use crate::words::word32;
+use std::num::wrapping_add_u32 as add;
 ghost use mathlib.Core.Path.{_≡_};
 ghost use Prim.Native.Nat.{_<_, _≤_};
 ghost use lib.ListN.{length, take};
-ghost use Rattle.hash.specs.Word.{add, rotr, ch, maj};
+ghost use Rattle.hash.specs.Word.{rotr, ch, maj};
 ghost use Rattle.hash.specs.Table.{k64};
 ghost use Rattle.hash.specs.Description.{narrow};
 ghost use Rattle.hash.specs.Blocks.{wordsAfter};
@@ -14,12 +15,6 @@ ghost use Rattle.hash.specs.Sha2 as sha;
 const WORD: usize = 4;
 
 const BLOCK: usize = 16 * WORD;
-
-fn add(x: u32, y: u32) -> u32
-    ensures { λ r. ⌜ r ≡ add 32 x y ⌝ }
-{
-    std::num::wrapping_add_u32(x, y)
-}
 
 fn rotr(x: u32, n: u32) -> u32
     requires { ⌜ (0 < n) × (n < 32) ⌝ }

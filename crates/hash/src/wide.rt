@@ -1,9 +1,10 @@
 // The block step on words of 64 bits (FIPS 180-4, sections 4.1.3 and 6.4.2), and the words after all whole blocks of a slice.
 use crate::words::word64;
+use std::num::wrapping_add_u64 as add;
 ghost use mathlib.Core.Path.{_≡_};
 ghost use Prim.Native.Nat.{_<_, _≤_};
 ghost use lib.ListN.{length, take};
-ghost use Rattle.hash.specs.Word.{add, rotr, ch, maj};
+ghost use Rattle.hash.specs.Word.{rotr, ch, maj};
 ghost use Rattle.hash.specs.Table.{k64};
 ghost use Rattle.hash.specs.Description.{wide};
 ghost use Rattle.hash.specs.Blocks.{wordsAfter};
@@ -13,12 +14,6 @@ ghost use Rattle.hash.specs.Sha2 as sha;
 const WORD: usize = 8;
 
 const BLOCK: usize = 16 * WORD;
-
-fn add(x: u64, y: u64) -> u64
-    ensures { λ r. ⌜ r ≡ add 64 x y ⌝ }
-{
-    std::num::wrapping_add_u64(x, y)
-}
 
 fn rotr(x: u64, n: u64) -> u64
     requires { ⌜ (0 < n) × (n < 64) ⌝ }

@@ -1,11 +1,11 @@
 -- `hash::blocks::narrowed` copies one word a turn. Assumes nothing.
 use mathlib.Core.Path.{refl}
-use Prim.Native.Nat.{_-_, _^_, zero-le}
+use Prim.Native.Nat.{_-_, _^_}
 use native.Mathlib.Omega.{arith}
 use lib.Dec.{ltb}
 use borrow.Author.Tests.{ltb-true}
 use Rattle.octets.specs.Every.Laws.{every-at}
-use Rattle.hash.proofs.Loops.{Copied, copy, copied}
+use Rattle.hash.proofs.Loops.{none, Copied, copy, copied}
 use Rattle.hash.proofs.blocks.narrowed.Statement.{statement}
 use Rattle.hash.proofs.blocks.narrowed.Tie as tie
 
@@ -29,5 +29,5 @@ returns c = copied (c .before .loop .inv) (c .before .before .good .0 .1 .0 .1) 
 pub narrowed-spec : {M : Type 1} → statement M
 narrowed-spec =
     tie.close
-    (tie.spec Inv-loop μ-loop (λ c. record { within = zero-le; size = refl; is = refl }) (λ c. omega arith) (λ c. omega arith)
+    (tie.spec Inv-loop μ-loop (λ c. none refl refl) (λ c. omega arith) (λ c. omega arith)
     cast-out (λ c. omega arith) (λ c. omega arith) (λ c. omega arith) (λ c. omega arith) loop-again returns)

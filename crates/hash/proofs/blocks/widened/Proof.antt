@@ -1,9 +1,9 @@
 -- `hash::blocks::widened` copies one word a turn. Assumes nothing.
 use mathlib.Core.Path.{refl}
-use Prim.Native.Nat.{_-_, zero-le}
+use Prim.Native.Nat.{_-_}
 use native.Mathlib.Omega.{arith}
 use borrow.Author.Needs.{needs}
-use Rattle.hash.proofs.Loops.{Copied, copy, copied}
+use Rattle.hash.proofs.Loops.{none, Copied, copy, copied}
 use Rattle.hash.proofs.blocks.widened.Statement.{statement}
 use Rattle.hash.proofs.blocks.widened.Tie as tie
 
@@ -22,5 +22,5 @@ returns c = copied (c .before .loop .inv) (c .before .before .good .0 .1 .0 .1) 
 pub widened-spec : {M : Type 1} → statement M
 widened-spec =
     tie.close
-    (tie.spec Inv-loop μ-loop (λ c. record { within = zero-le; size = refl; is = refl }) (λ c. omega arith) (λ c. omega arith)
+    (tie.spec Inv-loop μ-loop (λ c. none refl refl) (λ c. omega arith) (λ c. omega arith)
     (λ c. search needs) (λ c. omega arith) (λ c. omega arith) (λ c. omega arith) (λ c. omega arith) loop-again returns)

@@ -10,8 +10,8 @@ unfolding narrow
 returns c =
     let entry = c .before .before .before .before .before .args in
     mix-code narrow (entry .w2) (entry .w7) (entry .w15) (entry .w16) (c .before .before .before .before .small1 .ensures)
-    (c .before .before .before .add .ensures)
-    (c .before .before .small0 .ensures) (c .before .add2 .ensures) (c .add3 .ensures)
+    (c .before .before .before .wrapping-add-u32 .ensures)
+    (c .before .before .small0 .ensures) (c .before .wrapping-add-u322 .ensures) (c .wrapping-add-u323 .ensures)
 
 pub mix-spec : {M : Type 1} → statement M
 mix-spec =

@@ -10,7 +10,7 @@ unfolding narrow
 returns c =
     let entry = c .before .before .before .before .args in
     round-code narrow (entry .t1) (entry .k) (entry .w) (c .before .before .before .t1 .ensures)
-    (c .before .before .t2 .ensures) (c .before .add .ensures) (c .add2 .ensures)
+    (c .before .before .t2 .ensures) (c .before .wrapping-add-u32 .ensures) (c .wrapping-add-u322 .ensures)
 
 pub round-spec : {M : Type 1} → statement M
 round-spec =

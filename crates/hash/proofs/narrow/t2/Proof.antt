@@ -10,7 +10,7 @@ unfolding narrow
 returns c =
     let entry = c .before .before .before .args in
     t2-code narrow (entry .a) (entry .b) (entry .c) (c .before .before .big0 .ensures) (c .before .maj .ensures)
-    (c .add .ensures)
+    (c .wrapping-add-u32 .ensures)
 
 pub t2-spec : {M : Type 1} → statement M
 t2-spec = tie.close (tie.spec (λ c κs. search needs) (λ c κs. search needs) (λ c κs. search needs) returns)

@@ -1,12 +1,12 @@
 -- `hash::wide::load` reads one word a turn. Assumes nothing.
 use mathlib.Core.Path.{refl}
-use Prim.Native.Nat.{_-_, zero-le}
+use Prim.Native.Nat.{_-_}
 use native.Mathlib.Omega.{arith}
 use denote.Ref.{now}
 use Rattle.hash.specs.Description.{wide}
 use Rattle.hash.specs.Sha2.{words, word}
 use Rattle.hash.proofs.Schedule.{words-next}
-use Rattle.hash.proofs.Loops.{Written, more, done}
+use Rattle.hash.proofs.Loops.{Written, none, more, done}
 use Rattle.hash.proofs.wide.load.Statement.{statement}
 use Rattle.hash.proofs.wide.load.Tie as tie
 
@@ -18,7 +18,7 @@ abbrev μ-loop : tie.MeasureT-loop
 
 loop-holds : tie.Need-loop-holds Inv-loop μ-loop
 unfolding words
-loop-holds c = record { within = zero-le; size = refl; is = refl }
+loop-holds c = none refl refl
 
 loop-again : tie.Need-loop-again Inv-loop μ-loop
 unfolding wide word

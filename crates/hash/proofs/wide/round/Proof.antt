@@ -10,7 +10,7 @@ unfolding wide
 returns c =
     let entry = c .before .before .before .before .args in
     round-code wide (entry .t1) (entry .k) (entry .w) (c .before .before .before .t1 .ensures) (c .before .before .t2 .ensures)
-    (c .before .add .ensures) (c .add2 .ensures)
+    (c .before .wrapping-add-u64 .ensures) (c .wrapping-add-u642 .ensures)
 
 pub round-spec : {M : Type 1} → statement M
 round-spec =

@@ -10,8 +10,8 @@ unfolding wide
 returns c =
     let entry = c .before .before .before .before .before .before .args in
     t1-code wide (entry .e) (entry .f) (entry .g) (entry .h) (entry .k) (entry .w)
-    (c .before .before .before .before .before .big1 .ensures) (c .before .before .before .before .add .ensures)
-    (c .before .before .before .ch .ensures) (c .before .before .add2 .ensures) (c .before .add3 .ensures) (c .add4 .ensures)
+    (c .before .before .before .before .before .big1 .ensures) (c .before .before .before .before .wrapping-add-u64 .ensures)
+    (c .before .before .before .ch .ensures) (c .before .before .wrapping-add-u642 .ensures) (c .before .wrapping-add-u643 .ensures) (c .wrapping-add-u644 .ensures)
 
 pub t1-spec : {M : Type 1} → statement M
 t1-spec =
