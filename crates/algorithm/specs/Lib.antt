@@ -1,4 +1,5 @@
 pub mod Hashes
 pub mod Refusals
 pub mod Checks
+pub mod Calls
 pub mod Pieces

@@ -1,6 +1,5 @@
 // The hashes that we make: their numbers and their sizes.
-ghost use mathlib.Core.Path.{_≡_};
-ghost use Rattle.algorithm.specs.Hashes.{whichOf, blockOf, sizeOf, shortestOf};
+ghost use Rattle.algorithm.specs.Calls.{WhichOutcome, BlockSizeOutcome, DigestSizeOutcome, ShortestTagOutcome};
 
 pub enum Hash {
     Sha256,
@@ -15,7 +14,7 @@ pub enum Named {
 
 // The hash that a number names.
 pub fn which(number: u32) -> Named
-    ensures { λ r. ⌜ r ≡ whichOf number ⌝ }
+    ensures { λ r. ⌜ WhichOutcome number r ⌝ }
 {
     match number {
         1 => Named::Is(Hash::Sha256),
@@ -26,7 +25,7 @@ pub fn which(number: u32) -> Named
 
 // The bytes of a block.
 pub fn block_size(hash: Hash) -> usize
-    ensures { λ r. ⌜ r ≡ blockOf hash ⌝ }
+    ensures { λ r. ⌜ BlockSizeOutcome hash r ⌝ }
 {
     match hash {
         Hash::Sha256 => 64,
@@ -36,7 +35,7 @@ pub fn block_size(hash: Hash) -> usize
 
 // The bytes of a digest.
 pub fn digest_size(hash: Hash) -> usize
-    ensures { λ r. ⌜ r ≡ sizeOf hash ⌝ }
+    ensures { λ r. ⌜ DigestSizeOutcome hash r ⌝ }
 {
     match hash {
         Hash::Sha256 => 32,
@@ -46,7 +45,7 @@ pub fn digest_size(hash: Hash) -> usize
 
 // The bytes of the shortest tag, half a digest (RFC 2104).
 pub fn shortest_tag(hash: Hash) -> usize
-    ensures { λ r. ⌜ r ≡ shortestOf hash ⌝ }
+    ensures { λ r. ⌜ ShortestTagOutcome hash r ⌝ }
 {
     match hash {
         Hash::Sha256 => 16,

@@ -64,7 +64,7 @@ fn fill(number: u32, prk: &[u8], info: &[u8], out: &mut [u8])
     let mut filled = 0;
     let mut at = 0;
     let mut i: u8 = 0;
-    while at < out.len() {
+    while at + 1 <= out.len() {
         let next = i + 1;
         block = stretch(keyed, &block[..filled], info, next);
         filled = size;

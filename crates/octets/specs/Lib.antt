@@ -5,3 +5,4 @@ pub mod Every
 pub mod Same
 pub mod Parts
 pub mod Sums
+pub mod Calls

@@ -1,9 +1,9 @@
 // Comparing bytes.
-ghost use Rattle.octets.specs.Same.{Tells};
+ghost use Rattle.octets.specs.Calls.{SameOutcome};
 
 // Whether two slices hold the same bytes. It gathers the bits in which they differ and tests them once, with no early exit.
 pub fn same(a: &[u8], b: &[u8]) -> bool
-    ensures { λ r. ⌜ Tells r (now (a .entry)) (now (b .entry)) ⌝ }
+    ensures { λ r. ⌜ SameOutcome (now (a .entry)) (now (b .entry)) r ⌝ }
 {
     if a.len() != b.len() {
         return false;

@@ -1,10 +1,9 @@
 // Copying bytes.
-ghost use mathlib.Core.Path.{_≡_};
-ghost use Rattle.octets.specs.Copy.{over};
+ghost use Rattle.octets.specs.Calls.{CopyOutcome};
 
 // Writes the beginning of `src` over the beginning of `out`, as far as both go.
 pub fn copy_prefix(src: &[u8], out: &mut [u8])
-    ensures { λ _. ⌜ now (out .exit) ≡ over (now (src .entry)) (now (out .entry)) ⌝ }
+    ensures { λ _. ⌜ CopyOutcome (now (src .entry)) (now (out .entry)) (now (out .exit)) ⌝ }
 {
     let mut i = 0;
     while i < src.len() && i < out.len() {

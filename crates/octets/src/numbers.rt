@@ -1,11 +1,9 @@
 // Numbers: their bytes, big-endian, and copying them.
-ghost use mathlib.Core.Path.{_≡_};
-ghost use Rattle.octets.specs.Copy.{over};
-ghost use Rattle.octets.specs.Number.{bytes};
+ghost use Rattle.octets.specs.Calls.{CopyOutcome, EightBytesOutcome};
 
 // The eight bytes of a number.
 pub fn eight_bytes(x: u64) -> [u8; 8]
-    ensures { λ r. ⌜ r ≡ bytes 8 x ⌝ }
+    ensures { λ r. ⌜ EightBytesOutcome x r ⌝ }
 {
     [
         (x / 72057594037927936 % 256) as u8,
@@ -21,7 +19,7 @@ pub fn eight_bytes(x: u64) -> [u8; 8]
 
 // Writes the beginning of `src` over the beginning of `out`, as far as both go.
 pub fn copy_numbers(src: &[u64], out: &mut [u64])
-    ensures { λ _. ⌜ now (out .exit) ≡ over (now (src .entry)) (now (out .entry)) ⌝ }
+    ensures { λ _. ⌜ CopyOutcome (now (src .entry)) (now (out .entry)) (now (out .exit)) ⌝ }
 {
     let mut i = 0;
     while i < src.len() && i < out.len() {

@@ -1,6 +1,5 @@
 // A sum of numbers that knows whether it passed 2^64 - 1.
-ghost use mathlib.Core.Path.{_≡_};
-ghost use Rattle.octets.specs.Sums.{plusOf};
+ghost use Rattle.octets.specs.Calls.{PlusOutcome};
 
 // The largest total.
 const LARGEST_TOTAL: u64 = 18446744073709551615;
@@ -13,7 +12,7 @@ pub struct Sum {
 
 // The sum with one number more. Once it is over it stays so.
 pub fn plus(sum: Sum, number: u64) -> Sum
-    ensures { λ r. ⌜ r ≡ plusOf sum number ⌝ }
+    ensures { λ r. ⌜ PlusOutcome sum number r ⌝ }
 {
     if sum.over || LARGEST_TOTAL - sum.total < number {
         return Sum {

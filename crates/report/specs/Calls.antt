@@ -7,11 +7,11 @@ use mathlib.Core.List.{List, [], _∷_, _++_}
 use Prim.Native.Nat.{ℕ, zero, suc, _+_, _*_, _≤_}
 use lib.Dec.{leb, ltb, eqb}
 use lib.ListN.{length, take, drop, getD}
-use Rattle.octets.specs.Same.{equal}
 use Rattle.algorithm.specs.Hashes.{sizeOf}
-use Rattle.algorithm.specs.Refusals.{done, tagDiffers, unknownHash, keyTooLong, wrongSize, prkTooShort, noSuchSite, mostBytes}
+use Rattle.algorithm.specs.Refusals.{done, unknownHash, keyTooLong, wrongSize, prkTooShort, noSuchSite, mostBytes}
 use Rattle.algorithm.specs.Checks.{Check, check, firstFailing, decided, answered}
 use Rattle.hmac.specs.Hmac.{tagOf}
+use Rattle.hmac.specs.Calls.{compareChecks}
 use Rattle.report.specs.Layout.{Site, Fields, liveOf}
 use Rattle.report.specs.Reading.{namesHash, hashNamed, hashIn, tagSizeIn, tagStart, beforeTag, sitesIn, readChecks, fieldsOf, readOf}
 use Rattle.report.specs.Fingerprint.{fingerprintOf}
@@ -136,9 +136,7 @@ keyChecks key = check (leb (length key) mostBytes) keyTooLong ∷ []
 -- check(report, tag_key)
 abbrev pub tagChecks : List ℕ → List ℕ → List Check
 tagChecks s key =
-    readChecks s
-    ++ (keyChecks key
-    ++ (check (equal (drop (tagStart s) s) (tagOf (hashIn s) key (tagSizeIn s) (beforeTag s))) tagDiffers ∷ []))
+    readChecks s ++ (keyChecks key ++ compareChecks (drop (tagStart s) s) (tagOf (hashIn s) key (tagSizeIn s) (beforeTag s)))
 
 pub checkAnswer : List ℕ → List ℕ → ℕ
 checkAnswer s key = firstFailing (tagChecks s key)

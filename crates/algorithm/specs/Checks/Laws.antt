@@ -71,6 +71,18 @@ append-passes (c ∷ a) b e (more z r) = elim (test (c .passes)) [
   | no t ↦ absurd (z t (rw t at e))
 ]
 
+-- all of them pass exactly when the first do and the rest do
+pub pass-append : (a b : List Check) → Pass (a ++ b) ↔ (Pass a × Pass b)
+pass-append a b = (split a, λ p. join (p .0) (p .1))
+  where
+    split : (a : List Check) → Pass (a ++ b) → Pass a × Pass b
+    split [] p = (all, p)
+    split (c ∷ a) (and e p) = let q = split a p in (and e (q .0), q .1)
+
+    join : {a : List Check} → Pass a → Pass b → Pass (a ++ b)
+    join all q = q
+    join (and e p) q = and e (join p q)
+
 pub refusing-append : (a b : List Check) → Refusing a → Refusing b → Refusing (a ++ b)
 refusing-append [] b none r = r
 refusing-append (c ∷ a) b (more z q) r = more z (refusing-append a b q r)

@@ -4,7 +4,7 @@ use mathlib.Core.Bool.{Bool, true, false, cond}
 use Prim.Native.Nat.{ℕ, _*_, _≤_, _<_}
 use native.Mathlib.Omega.{arith}
 use lib.Dec.{lit<, lit≤}
-use Rattle.algorithm.specs.Hashes.{blockOf, sizeOf, shortestOf, names, hashOf, whichOf}
+use Rattle.algorithm.specs.Hashes.{blockOf, sizeOf, shortestOf}
 use Rattle.algorithm.specs.declared.hashes.Hash.{Hash}
 use Rattle.algorithm.specs.declared.hashes.Hash.the-variants.{Sha256, Sha512}
 use Rattle.algorithm.specs.declared.hashes.Named.the-variants.{Is, Unknown}
@@ -17,14 +17,6 @@ unknown false h e = refl
 pub known : (b : Bool) (g h : Hash) → cond b (Is g) Unknown ≡ Is h → (b ≡ true) × (g ≡ h)
 known true g h e = (refl, cc)
 known false g h e = let z : _≡_ {A = ℕ} 0 1 = cc in absurd (omega arith)
-
--- what `which` answered says whether the number names a hash, and which
-module _ (n : ℕ) where
-  pub which-unknown : whichOf n ≡ Unknown → names n ≡ false
-  which-unknown e = unknown (names n) (hashOf n) e
-
-  pub which-is : (h : Hash) → whichOf n ≡ Is h → (names n ≡ true) × (hashOf n ≡ h)
-  which-is h e = known (names n) (hashOf n) h e
 
 -- the sizes of a hash, by the hashes that we make
 pub record Sizes (h : Hash) : Type 0 where

@@ -7,7 +7,8 @@ use native.Mathlib.Omega.{arith}
 use native.Mathlib.Decide.{decLe}
 use lib.ListN.{length, length-append}
 use Rattle.algorithm.specs.Refusals.{done, messageTooLong, mostBytes}
-use Rattle.algorithm.specs.Pieces.{afterAll, takenOf}
+use Rattle.algorithm.specs.Pieces.{afterAll, takenOf, Cut}
+use Rattle.algorithm.specs.Pieces.Cut.{end, piece, between}
 
 -- what a layer shows of its state, for the laws below
 pub record Taking (S : Type 0) : Type 1 where
@@ -65,3 +66,12 @@ module _ {S : Type 0} (w : Taking S) where
       after-all ps s h
       ∙ ap (w .after s) (all-taken ps s h l ∙ e ∙ sym (all-taken qs s h (rw e at l)))
       ∙ sym (after-all qs s h)
+
+  -- a message in pieces, with others between that are refused: its bytes are taken and no others
+  pub cut-taken : {n : ℕ} {ps : List (List ℕ)} {m : List ℕ} → Cut n ps m → (s : S) → w .Held s → w .count s ≡ n → takenOf (w .update) s ps ≡ m
+  unfolding takenOf
+  cut-taken end s h e = refl
+  cut-taken (piece p {ps = ps} l c) s h e =
+      let f : w .count s + length p ≤ mostBytes = omega arith in
+      rw (w .taken s p h f) (ap (λ (r : List ℕ). p ++ r) (cut-taken c (w .after s p) (w .after-held s p h f) (omega (arith, w .after-count s p))))
+  cut-taken (between p l c) s h e = rw (w .too-long s p h (omega arith)) (cut-taken c s h e)

@@ -20,7 +20,7 @@ use Rattle.report.specs.Layout.{Fields, liveOf}
 use Rattle.report.specs.Reading.{beforeTag, readSites, readOf, WellFormed}
 use Rattle.report.specs.Fingerprint.{gapStart, gapEnd, messageOf}
 use Rattle.report.specs.Keys.{infoOf}
-use Rattle.facts.specs.Demand.{tag-no-field}
+use Rattle.facts.specs.Demand.Laws.{demand-3}
 use Rattle.facts.specs.Starred.{worked, workedFields, Starred}
 
 -- how many padded blocks a message of one length has
@@ -81,6 +81,6 @@ starred = record {
   outer-starts = refl;
   info = refl;
   worked-reads = λ tag e.
-      sym (tag-no-field (worked ++ zeroTag) (worked ++ tag) zero-well-formed (before-tag zeroTag refl ∙ sym (before-tag tag e))) ∙ zero-reads;
+      sym (demand-3 .tag-no-field (worked ++ zeroTag) (worked ++ tag) zero-well-formed (before-tag zeroTag refl ∙ sym (before-tag tag e))) ∙ zero-reads;
   worked-message = worked-length;
 }

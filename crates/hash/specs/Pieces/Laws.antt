@@ -17,8 +17,8 @@ use Rattle.hash.specs.State.Laws.{after-nothing, after-append, after-hel
 use Rattle.hash.specs.Calls.{startOf, updateOf, finishOf, digestAnswer}
 use Rattle.algorithm.specs.Checks.{written}
 use Rattle.hash.specs.Calls.Laws.{start-accepted, start-refused, start-held, update-accepted, update-too-long, finish-accepted, finish-wrong-size, digest-unknown, digest-too-long, digest-accepted, digest-wrong-size}
-use Rattle.algorithm.specs.Pieces.{afterAll, takenOf}
-use Rattle.algorithm.specs.Pieces.Laws.{Taking, after-all, all-held}
+use Rattle.algorithm.specs.Pieces.{afterAll, takenOf, Cut}
+use Rattle.algorithm.specs.Pieces.Laws.{Taking, after-all, all-held, cut-taken}
 use Rattle.hash.specs.Pieces.{given}
 use Rattle.hash.specs.declared.state.State.{State}
 use Rattle.hash.specs.declared.state.Started.{Started}
@@ -67,6 +67,13 @@ pieces-finish n ps out named =
           finish-wrong-size (afterAll given s ps) out (held .sound) (λ q. l (q ∙ size))
           ∙ sym (digest-wrong-size n m out named fits l)
     ]
+
+-- a message that fits, cut anywhere, with refused pieces between, has the digest that it has in one piece
+pub cut-digest : (n : ℕ) → names n ≡ true → {ps : List (List ℕ)} {m : List ℕ} → Cut 0 ps m → (out : List ℕ)
+    → finishOf (afterAll given (startOf n .state) ps) out ≡ digestAnswer n m out
+cut-digest n named {ps} cut out =
+    let none : startOf n .state .count ≡ 0 = ap (λ (r : Started). r .state .count) (start-accepted n named) ∙ fresh-count (hashOf n) in
+    pieces-finish n ps out named ∙ ap (λ (l : List ℕ). digestAnswer n l out) (cut-taken taking cut (startOf n .state) (start-held n) none)
 
 -- a message in one piece, by a start, a piece and the end: what the first refusal leaves, and what the end answers
 module _ (n : ℕ) (m out : List ℕ) where

@@ -1,10 +1,9 @@
 -- Laws of the calls, for the layers above and for this crate's proofs: what each answers once its checks are known. Assumes nothing.
-use mathlib.Core.Path.{_≡_, refl, sym, ap, subst, _∙_}
+use mathlib.Core.Path.{_≡_, refl, sym, _∙_}
 use mathlib.Core.Logic.{_↔_}
-use mathlib.Core.Bool.{Bool, true, false, cond}
+use mathlib.Core.Bool.{true, false, cond}
 use mathlib.Core.List.{List, _++_}
 use Prim.Native.Nat.{ℕ, _+_, _-_, _≤_, _<_}
-use native.Mathlib.Omega.{arith}
 use lib.Dec.{leb}
 use lib.ListN.{length, take}
 use borrow.Author.Tests.{le-leb, lt-leb, leb-true, eq-eqb, ne-eqb}
@@ -15,9 +14,11 @@ use Rattle.algorithm.specs.declared.hashes.Hash.{Hash}
 use Rattle.algorithm.specs.Hashes.{names, hashOf, blockOf, sizeOf, shortestOf}
 use Rattle.algorithm.specs.Refusals.{done, tagDiffers, unknownHash, keyTooLong, messageTooLong, wrongSize, stateNotSound, mostBytes}
 use Rattle.algorithm.specs.Checks.{Check, Fail, Pass, Refusing, written, firstFailing, answered}
+use Rattle.algorithm.specs.Checks.Pass.{all, and}
 use Rattle.algorithm.specs.Checks.Refusing.{none}
-use Rattle.algorithm.specs.Checks.Laws.{exactly, exactly-done, refuses, refused-given, answered-refused, append-refuses, refusing-append}
+use Rattle.algorithm.specs.Checks.Laws.{exactly, exactly-done, passes-done, done-passes, pass-append, refuses, refused-given, answered-refused, append-refuses, refusing-append}
 use Rattle.hmac.specs.Hmac.{tagOf}
+use Rattle.hmac.specs.Hmac.Laws.{tag-length}
 use Rattle.hmac.specs.Keyed.{Message, soundKeyed, freshKeyed, zeroKeyed, afterKeyed, fullTag}
 use Rattle.hmac.specs.Calls.{allowed, startChecks, updateChecks, lengthChecks, compareChecks, tagChecks, verifyChecks, fitChecks, takenChecks, messageChecks, verifyMessageChecks, startOf, updateOf, tagAnswer, verifyAnswer, tagMessageAnswer, verifyMessageAnswer}
 use Rattle.hmac.specs.declared.keyed.Keyed.{Keyed}
@@ -213,26 +214,43 @@ verify-message-done n key m t presented =
     exactly-done (verifyMessageChecks n key m t presented)
     (refusing-append (messageChecks n key m t presented) _ (message-refusing n key m t presented) (refuses _ _ none))
 
--- once no other check fails, verify says yes exactly to the tag
-pub says-yes : (a b : List ℕ) → cond (equal a b) done tagDiffers ≡ done ↔ (a ≡ b)
-says-yes a b = (λ e. equal-tells a b .true-equal (yes (equal a b) e), λ e. ap (λ (x : Bool). cond x done tagDiffers) (equal-tells a b .equal-true e))
+-- checks that end in a comparison let a call be done exactly when all others pass and the two are equal
+pub compared-done : (cs : List Check) → Refusing cs → (a b : List ℕ) → firstFailing (cs ++ compareChecks a b) ≡ done ↔ (Pass cs × (a ≡ b))
+compared-done cs r a b =
+    let parts = pass-append cs (compareChecks a b) in
+    let refusing : Refusing (cs ++ compareChecks a b) = refusing-append cs (compareChecks a b) r (refuses _ _ none) in (
+      λ e. let p = parts .0 (done-passes (cs ++ compareChecks a b) refusing e) in (p .0, same (p .1)),
+      λ p. passes-done (parts .1 (p .0, and (equal-tells a b .equal-true (p .1)) all)),
+    )
   where
-    yes : (x : Bool) → cond x done tagDiffers ≡ done → x ≡ true
-    yes true e = refl
-    yes false e = absurd (omega arith)
+    same : Pass (compareChecks a b) → a ≡ b
+    same (and e all) = equal-tells a b .true-equal e
 
-pub verify-tag : (k : Keyed) (t : ℕ) (presented : List ℕ) → soundKeyed k ≡ true → allowed (k .hash) t ≡ true → length presented ≡ t
-    → verifyAnswer k t presented ≡ done ↔ (presented ≡ take t (fullTag k))
-verify-tag k t presented h a e =
-    subst (λ (r : ℕ). r ≡ done ↔ (presented ≡ take t (fullTag k))) (sym (verify-compared k t presented h a e)) (says-yes presented (take t (fullTag k)))
+-- so verify says yes exactly when every check of the tag passes and what is presented is the tag
+pub verify-tag : (k : Keyed) (t : ℕ) (presented : List ℕ)
+    → verifyAnswer k t presented ≡ done ↔ (Pass (tagChecks k t presented) × (presented ≡ take t (fullTag k)))
+unfolding verifyAnswer
+verify-tag k t presented = compared-done (tagChecks k t presented) (tag-refusing k t presented) presented (take t (fullTag k))
 
+module _ (n : ℕ) (key m : List ℕ) (t : ℕ) where
+  pub verify-message-tag : (presented : List ℕ)
+      → verifyMessageAnswer n key m t presented ≡ done ↔ (Pass (messageChecks n key m t presented) × (presented ≡ tagOf (hashOf n) key t m))
+  unfolding verifyMessageAnswer
+  verify-message-tag presented =
+      compared-done (messageChecks n key m t presented) (message-refusing n key m t presented) presented (tagOf (hashOf n) key t m)
+
+  -- and to the tag itself wherever it may be asked for: its length is the one asked for
+  pub verify-message-yes : Pass (takenChecks n key m) → allowed (hashOf n) t ≡ true → verifyMessageAnswer n key m t (tagOf (hashOf n) key t m) ≡ done
+  verify-message-yes taken asked =
+      let tag : List ℕ = tagOf (hashOf n) key t m in
+      let size : length tag ≡ t = tag-length (hashOf n) key t m (allowed-most (hashOf n) t asked) in
+      let fits : Pass (lengthChecks (hashOf n) t tag) = and asked (and (eq-eqb (length tag) t size) all) in
+      verify-message-tag tag .1 (pass-append (takenChecks n key m) (lengthChecks (hashOf n) t tag) .1 (taken, fits), refl)
+
+-- what it answers once every other check passes
 module _ (n : ℕ) (key m : List ℕ) (t : ℕ) (presented : List ℕ) (h : names n ≡ true) (l : length key ≤ mostBytes)
     (g : length m ≤ mostBytes - blockOf (hashOf n)) (a : allowed (hashOf n) t ≡ true) (e : length presented ≡ t) where
   pub verify-message-compared : verifyMessageAnswer n key m t presented ≡ cond (equal presented (tagOf (hashOf n) key t m)) done tagDiffers
   unfolding verifyMessageAnswer
   verify-message-compared =
       rw (h, le-leb (length key) mostBytes l, le-leb (length m) (mostBytes - blockOf (hashOf n)) g, a, eq-eqb (length presented) t e)
-
-  pub verify-message-tag : verifyMessageAnswer n key m t presented ≡ done ↔ (presented ≡ tagOf (hashOf n) key t m)
-  verify-message-tag =
-      subst (λ (r : ℕ). r ≡ done ↔ (presented ≡ tagOf (hashOf n) key t m)) (sym verify-message-compared) (says-yes presented (tagOf (hashOf n) key t m))

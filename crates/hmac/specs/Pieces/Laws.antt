@@ -15,8 +15,8 @@ use Rattle.hmac.specs.Keyed.{Message, innerOf, HeldKeyed, freshKeyed, af
 use Rattle.hmac.specs.Keyed.Laws.{sound-inner, keyed-hash, keyed-count, keyed-held, keyed-after-hash, keyed-after-count, keyed-after-held, keyed-after-append, keyed-after-nothing, full-fresh}
 use Rattle.hmac.specs.Calls.{startOf, updateOf, tagAnswer, verifyAnswer, tagMessageAnswer, verifyMessageAnswer}
 use Rattle.hmac.specs.Calls.Laws.{start-accepted, update-too-long, update-accepted, message-tag, message-verify}
-use Rattle.algorithm.specs.Pieces.{afterAll, takenOf}
-use Rattle.algorithm.specs.Pieces.Laws.{Taking, after-all, all-held}
+use Rattle.algorithm.specs.Pieces.{afterAll, takenOf, Cut}
+use Rattle.algorithm.specs.Pieces.Laws.{Taking, after-all, all-held, cut-taken}
 use Rattle.hmac.specs.Pieces.{given, Leads}
 use Rattle.hmac.specs.Pieces.Leads.{one, more}
 use Rattle.hmac.specs.declared.keyed.Keyed.{Keyed}
@@ -100,3 +100,18 @@ module _ (n : ℕ) (key : List ℕ) (named : names n ≡ true) (short : length k
   pub pieces-verify : (t : ℕ) (presented : List ℕ)
       → verifyAnswer (afterAll given (startOf n key .keyed) ps) t presented ≡ verifyMessageAnswer n key (takenOf given (startOf n key .keyed) ps) t presented
   pieces-verify t presented = message-verify pieces-message t presented
+
+-- a message that fits, cut anywhere, with refused pieces between, is tagged and compared as in one piece
+module _ (n : ℕ) (key : List ℕ) (named : names n ≡ true) (short : length key ≤ mostBytes)
+    {ps : List (List ℕ)} {m : List ℕ} (cut : Cut (blockOf (hashOf n)) ps m) (t : ℕ) where
+  cut-is : takenOf given (startOf n key .keyed) ps ≡ m
+  cut-is =
+      cut-taken taking cut (startOf n key .keyed) (start-held n key named short ps)
+      (ap (λ (k : Keyed). k .count) (start-is n key named short ps) ∙ keyed-count (hashOf n) key)
+
+  pub cut-tag : (out : List ℕ) → tagAnswer (afterAll given (startOf n key .keyed) ps) t out ≡ tagMessageAnswer n key m t out
+  cut-tag out = pieces-tag n key named short ps t out ∙ ap (λ (l : List ℕ). tagMessageAnswer n key l t out) cut-is
+
+  pub cut-verify : (presented : List ℕ)
+      → verifyAnswer (afterAll given (startOf n key .keyed) ps) t presented ≡ verifyMessageAnswer n key m t presented
+  cut-verify presented = pieces-verify n key named short ps t presented ∙ ap (λ (l : List ℕ). verifyMessageAnswer n key l t presented) cut-is

@@ -24,10 +24,10 @@ use Rattle.algorithm.specs.Refusals.{done, tagDiffers, unknownHash, keyTooLong,
 use Rattle.algorithm.specs.Checks.{Check, check, firstFailing, Pass, Refusing, Fail, written, answered}
 use Rattle.algorithm.specs.Checks.Pass.{all, and}
 use Rattle.algorithm.specs.Checks.Refusing.{none}
-use Rattle.algorithm.specs.Checks.Laws.{exactly, exactly-done, done-passes, refuses, append-refuses, append-passes, refusing-append, refused-given, done-work}
+use Rattle.algorithm.specs.Checks.Laws.{exactly, exactly-done, done-passes, refuses, pass-append, append-refuses, append-passes, refusing-append, refused-given, done-work}
 use Rattle.hmac.specs.Hmac.{tagOf}
-use Rattle.hmac.specs.Calls.{allowed}
-use Rattle.hmac.specs.Calls.Laws.{says-yes}
+use Rattle.hmac.specs.Calls.{allowed, compareChecks}
+use Rattle.hmac.specs.Calls.Laws.{compared-done}
 use Rattle.report.specs.Reading.{namesHash, hashNamed, namedIn, hashIn, tagSizeIn, tagStart, beforeTag, firstSite, readSites, sitesIn, readChecks, fieldsOf, readOf}
 use Rattle.report.specs.Reading.Laws.{read-refusing, First, first, Passed, passed, passes, passes-then}
 use Rattle.report.specs.Fingerprint.{fingerprintOf}
@@ -334,30 +334,37 @@ module _ (s : List ℕ) (place : ℕ) (numbers : List ℕ) where
 
 -- check
 module _ (s key : List ℕ) where
-  abbrev compares : Check
-  compares = check (equal (drop (tagStart s) s) (tagOf (hashIn s) key (tagSizeIn s) (beforeTag s))) tagDiffers
+  abbrev compares : List Check
+  compares = compareChecks (drop (tagStart s) s) (tagOf (hashIn s) key (tagSizeIn s) (beforeTag s))
 
   pub check-refused : (firstFailing (readChecks s) ≡ done → ⊥) → checkAnswer s key ≡ firstFailing (readChecks s)
   unfolding checkAnswer
-  check-refused z = append-refuses (readChecks s) (keyChecks key ++ (compares ∷ [])) z
+  check-refused z = append-refuses (readChecks s) (keyChecks key ++ compares) z
 
   module _ (p : Passed s) where
     pub check-key : (firstFailing (keyChecks key) ≡ done → ⊥) → checkAnswer s key ≡ firstFailing (keyChecks key)
     unfolding checkAnswer
-    check-key z = passes-then s p (keyChecks key ++ (compares ∷ [])) ∙ append-refuses (keyChecks key) (compares ∷ []) z
+    check-key z = passes-then s p (keyChecks key ++ compares) ∙ append-refuses (keyChecks key) compares z
 
     pub check-compared : firstFailing (keyChecks key) ≡ done
         → checkAnswer s key
         ≡ cond (equal (drop (tagStart s) s) (tagOf (hashIn s) key (tagSizeIn s) (beforeTag s))) done tagDiffers
     unfolding checkAnswer
-    check-compared d = keyed-then s key p d (compares ∷ [])
+    check-compared d = keyed-then s key p d compares
 
-    -- so it says yes exactly to the tag of all bytes before it
-    pub check-tag : firstFailing (keyChecks key) ≡ done
-        → checkAnswer s key ≡ done ↔ (drop (tagStart s) s ≡ tagOf (hashIn s) key (tagSizeIn s) (beforeTag s))
-    check-tag d =
-        let tag : List ℕ = tagOf (hashIn s) key (tagSizeIn s) (beforeTag s) in
-        subst (λ (n : ℕ). n ≡ done ↔ (drop (tagStart s) s ≡ tag)) (sym (check-compared d)) (says-yes (drop (tagStart s) s) tag)
+  -- it says yes exactly when the checks of reading and of the key pass, and the tag is that of all bytes before it
+  pub check-tag : checkAnswer s key ≡ done
+      ↔ ((Pass (readChecks s) × Pass (keyChecks key)) × (drop (tagStart s) s ≡ tagOf (hashIn s) key (tagSizeIn s) (beforeTag s)))
+  unfolding checkAnswer
+  check-tag =
+      let first = pass-append (readChecks s) (keyChecks key) in
+      let whole =
+      compared-done (readChecks s ++ keyChecks key) (refusing-append (readChecks s) (keyChecks key) (read-refusing s) (key-refusing key)) (drop (tagStart s) s)
+      (tagOf (hashIn s) key (tagSizeIn s) (beforeTag s))
+      in (
+        λ e. let p = whole .0 e in (first .0 (p .0), p .1),
+        λ p. whole .1 (first .1 (p .0), p .1),
+      )
 
 -- fingerprint
 module _ (s key out : List ℕ) where

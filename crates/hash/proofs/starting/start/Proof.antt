@@ -1,7 +1,7 @@
 -- `hash::starting::start`: by what the number names. Assumes nothing.
 use mathlib.Core.Path.{sym, ap, _∙_}
 use borrow.Author.Needs.{needs}
-use Rattle.algorithm.specs.Hashes.Laws.{which-unknown, which-is}
+use Rattle.algorithm.specs.Calls.Laws.{which-unknown, which-is}
 use Rattle.algorithm.specs.Refusals.{done, unknownHash}
 use Rattle.hash.specs.State.{freshOf}
 use Rattle.hash.specs.State.Open.{zero-is}
@@ -13,13 +13,13 @@ returns : tie.Need-returns
 returns c =
     let n = c .before .before .before .before .args .number in
     ap (started unknownHash) (c .zeros .ensures ∙ sym zero-is)
-    ∙ sym (start-refused n (which-unknown n (sym (c .before .before .before .which .ensures) ∙ c .before .enum-told .given .1)))
+    ∙ sym (start-refused n (which-unknown n (c .before .before .before .which .ensures) (c .before .enum-told .given .1)))
 
 returns-2 : tie.Need-returns-2
 returns-2 c =
     let n = c .before .before .before .before .before .args .number in
     let hash = c .before .before .named .given .0 .0 in
-    let known = which-is n hash (sym (c .before .before .before .before .which .ensures) ∙ c .before .before .named .given .1) in
+    let known = which-is n (c .before .before .before .before .which .ensures) hash (c .before .before .named .given .1) in
     ap (started done) (c .fresh .ensures ∙ ap freshOf (sym (known .1))) ∙ sym (start-accepted n (known .0))
 
 pub start-spec : {M : Type 1} → statement M

@@ -3,7 +3,7 @@ use mathlib.Core.Path.{sym, ap, _∙_}
 use borrow.Author.Needs.{needs}
 use denote.Ref.{now}
 use Rattle.algorithm.specs.Hashes.{sizeOf}
-use Rattle.algorithm.specs.Hashes.Laws.{which-unknown, which-is}
+use Rattle.algorithm.specs.Calls.Laws.{which-unknown, which-is}
 use Rattle.hkdf.specs.Calls.Laws.{expand-unknown}
 use Rattle.hkdf.proofs.expanding.expand.Statement.{statement}
 use Rattle.hkdf.proofs.expanding.expand.Tie as tie
@@ -13,12 +13,12 @@ returns c =
     let start = c .before .before .before .before .before .before in
     let n = start .args .number in
     sym (expand-unknown n (now (start .args .prk)) (now (start .args .info)) (now (start .args .out))
-    (which-unknown n (sym (c .before .before .which .ensures) ∙ c .enum-told .given .1)))
+    (which-unknown n (c .before .before .which .ensures) (c .enum-told .given .1)))
 
 expand-for-requires : tie.Need-expand-for-requires
 expand-for-requires c κs =
     let named = c .before .before .before .named in
-    let known = which-is (c .before .before .before .before .before .before .before .before .before .args .number) (named .given .0 .0) (sym (c .before .before .before .before .before .which .ensures) ∙ named .given .1) in
+    let known = which-is (c .before .before .before .before .before .before .before .before .before .args .number) (c .before .before .before .before .before .which .ensures) (named .given .0 .0) (named .given .1) in
     (known .0, c .before .digest-size .ensures ∙ ap sizeOf (sym (known .1)))
 
 pub expand-spec : {M : Type 1} → statement M

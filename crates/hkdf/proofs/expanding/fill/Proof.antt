@@ -29,6 +29,7 @@ record Inv (n : ℕ) (prk info out₀ : List ℕ) (size : ℕ) (out block : List
   pub room : length out₀ ≤ mostDigests * size
   pub len : length out ≡ length out₀
   pub place : at ≡ i * size
+  pub near : at ≤ length out₀ + 64
   pub bound : i ≤ mostDigests
   pub wide : length block ≡ 64
   pub fits : filled ≤ 64
@@ -59,12 +60,16 @@ loop-holds c =
       room = omega (arith, size, start .pre .room);
       len = refl;
       place = omega arith;
+      near = omega arith;
       bound = search needs;
       wide = search needs;
       fits = search needs;
       last = sym (stretch-none h prk info);
       is = sym (ap (λ (l : List ℕ). over l out) (stretches-none h prk info) ∙ over-none out);
     }
+
+add-loop : tie.Need-add-loop Inv-loop μ-loop
+add-loop c = let v = c .loop .inv in omega (arith, v .near, v .room, v .most)
 
 add-next : tie.Need-add-next Inv-loop μ-loop
 add-next c =
@@ -120,6 +125,7 @@ loop-again c =
       room = v .room;
       len = ap length is ∙ over-length (stretches h prk info (l .i + 1)) o;
       place = omega (arith, v .place, add-mul (l .i) 1 size);
+      near = omega (arith, v .len);
       bound = omega arith;
       wide = search needs;
       fits = omega arith;
@@ -140,6 +146,6 @@ returns c =
 pub fill-spec : {M : Type 1} → statement M
 fill-spec =
     tie.close
-    (tie.spec Inv-loop μ-loop start-requires (λ c κs. search needs) loop-holds add-next (λ c. search needs) slice-aggregate-stretch stretch-requires
+    (tie.spec Inv-loop μ-loop start-requires (λ c κs. search needs) loop-holds add-loop add-next (λ c. search needs) slice-aggregate-stretch stretch-requires
     (λ c. search needs) (λ c. search needs) (λ c. search needs) (λ c. search needs) slice-aggregate-copy-prefix (λ c κs. search needs) (λ c. search needs)
     (λ c. search needs) loop-again (λ c. search needs) returns)

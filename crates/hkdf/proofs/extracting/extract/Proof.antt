@@ -6,7 +6,8 @@ use lib.ListN.{replicate}
 use borrow.Author.Needs.{needs}
 use denote.Ref.{now}
 use Rattle.algorithm.specs.Hashes.{hashOf, sizeOf}
-use Rattle.algorithm.specs.Hashes.Laws.{which-unknown, which-is, digest-most}
+use Rattle.algorithm.specs.Hashes.Laws.{digest-most}
+use Rattle.algorithm.specs.Calls.Laws.{which-unknown, which-is}
 use Rattle.hkdf.specs.Hkdf.Laws.{salt-empty, salt-given}
 use Rattle.hkdf.specs.Calls.Laws.{extract-unknown}
 use Rattle.hkdf.proofs.Extracts.{extracts}
@@ -18,7 +19,7 @@ returns c =
     let start = c .before .before .before .before .before .before in
     let n = start .args .number in
     sym (extract-unknown n (now (start .args .salt)) (now (start .args .ikm)) (now (start .args .out))
-    (which-unknown n (sym (c .before .before .which .ensures) ∙ c .enum-told .given .1)))
+    (which-unknown n (c .before .before .which .ensures) (c .enum-told .given .1)))
 
 unsalted-requires : tie.Need-unsalted-requires
 unsalted-requires c κs = omega (arith, c .before .before .digest-size .ensures, digest-most (c .before .before .before .before .named .given .0 .0))
@@ -29,7 +30,7 @@ returns-2 c =
     let n = start .args .number in
     let salt = now (start .args .salt) in
     let named = c .before .before .before .before .before .before .before .named in
-    let known = which-is n (named .given .0 .0) (sym (c .before .before .before .before .before .before .before .before .before .which .ensures) ∙ named .given .1) in
+    let known = which-is n (c .before .before .before .before .before .before .before .before .before .which .ensures) (named .given .0 .0) (named .given .1) in
     let size : c .before .before .before .before .before .digest-size .result ≡ sizeOf (hashOf n) = c .before .before .before .before .before .digest-size .ensures ∙ ap sizeOf (sym (known .1)) in
     extracts n salt (now (start .args .ikm)) (now (start .args .out)) (known .0)
     (ap (λ (k : ℕ). replicate k 0) size ∙ sym (salt-empty (hashOf n) salt (c .before .before .before .before .if1 .taken))) size
@@ -41,7 +42,7 @@ returns-3 c =
     let n = start .args .number in
     let salt = now (start .args .salt) in
     let named = c .before .before .before .before .before .before .before .named in
-    let known = which-is n (named .given .0 .0) (sym (c .before .before .before .before .before .before .before .before .before .which .ensures) ∙ named .given .1) in
+    let known = which-is n (c .before .before .before .before .before .before .before .before .before .which .ensures) (named .given .0 .0) (named .given .1) in
     extracts n salt (now (start .args .ikm)) (now (start .args .out)) (known .0)
     (sym (salt-given (hashOf n) salt (c .before .before .before .before .if1 .left)))
     (c .before .before .before .before .before .digest-size .ensures ∙ ap sizeOf (sym (known .1))) (c .before .before .tag-message .ensures)

@@ -4,7 +4,7 @@ use native.Mathlib.Omega.{arith}
 use borrow.Author.Needs.{needs}
 use denote.Ref.{now}
 use Rattle.algorithm.specs.declared.hashes.Hash.{Hash}
-use Rattle.algorithm.specs.Hashes.Laws.{which-unknown, which-is}
+use Rattle.algorithm.specs.Calls.Laws.{which-unknown, which-is}
 use Rattle.algorithm.specs.Refusals.{done, unknownHash, keyTooLong}
 use Rattle.hmac.specs.Keyed.{freshKeyed}
 use Rattle.hmac.specs.Calls.Laws.{started, start-unknown, start-too-long, start-accepted}
@@ -16,21 +16,21 @@ returns c =
     let start = c .before .before .before .before .before in
     let n = start .args .number in
     ap (started unknownHash) (c .zeros .ensures)
-    ∙ sym (start-unknown n (now (start .args .key)) (which-unknown n (sym (c .before .before .before .which .ensures) ∙ c .before .enum-told .given .1)))
+    ∙ sym (start-unknown n (now (start .args .key)) (which-unknown n (c .before .before .before .which .ensures) (c .before .enum-told .given .1)))
 
 returns-2 : tie.Need-returns-2
 returns-2 c =
     let start = c .before .before .before .before .before .before .before in
     let n = start .args .number in
     let hash = c .before .before .before .named .given .0 .0 in
-    let known = which-is n hash (sym (c .before .before .before .before .before .which .ensures) ∙ c .before .before .before .named .given .1) in
+    let known = which-is n (c .before .before .before .before .before .which .ensures) hash (c .before .before .before .named .given .1) in
     ap (started keyTooLong) (c .zeros2 .ensures) ∙ sym (start-too-long n (now (start .args .key)) (known .0) (omega arith))
 
 keyed-by-requires : tie.Need-keyed-by-requires
 keyed-by-requires c κs =
     let start = c .before .before .before .before .before .before in
     let hash = c .before .before .named .given .0 .0 in
-    let known = which-is (start .args .number) hash (sym (c .before .before .before .before .which .ensures) ∙ c .before .before .named .given .1) in
+    let known = which-is (start .args .number) (c .before .before .before .before .which .ensures) hash (c .before .before .named .given .1) in
     (record { known = known .0; is = known .1 }, omega arith)
 
 returns-3 : tie.Need-returns-3
@@ -39,7 +39,7 @@ returns-3 c =
     let n = start .args .number in
     let key = now (start .args .key) in
     let hash = c .before .before .before .named .given .0 .0 in
-    let known = which-is n hash (sym (c .before .before .before .before .before .which .ensures) ∙ c .before .before .before .named .given .1) in
+    let known = which-is n (c .before .before .before .before .before .which .ensures) hash (c .before .before .before .named .given .1) in
     ap (started done) (c .keyed-by .ensures ∙ ap (λ (h : Hash). freshKeyed h key) (sym (known .1)))
     ∙ sym (start-accepted n key (known .0) (omega arith))
 
