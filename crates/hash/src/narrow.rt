@@ -74,9 +74,17 @@ fn t2(a: u32, b: u32, c: u32) -> u32
 fn round(s: [u32; 8], k: u32, w: u32) -> [u32; 8]
     ensures { λ r. ⌜ r ≡ sha.round narrow s k w ⌝ }
 {
-    let x = t1(s[4], s[5], s[6], s[7], k, w);
-    let y = t2(s[0], s[1], s[2]);
-    [add(x, y), s[0], s[1], s[2], add(s[3], x), s[4], s[5], s[6]]
+    let a = s[0];
+    let b = s[1];
+    let c = s[2];
+    let d = s[3];
+    let e = s[4];
+    let f = s[5];
+    let g = s[6];
+    let h = s[7];
+    let x = t1(e, f, g, h, k, w);
+    let y = t2(a, b, c);
+    [add(x, y), a, b, c, add(d, x), e, f, g]
 }
 
 fn mix(w2: u32, w7: u32, w15: u32, w16: u32) -> u32
@@ -123,7 +131,7 @@ fn rounds(w: [u32; 64], s: [u32; 8], k: &[u64; 80]) -> [u32; 8]
 fn sums(s: [u32; 8], v: [u32; 8]) -> [u32; 8]
     ensures { λ r. ⌜ r ≡ sha.sums narrow s v ⌝ }
 {
-    let mut out = s;
+    let mut out = [0u32; 8];
     for i in 0..8 {
         out[i] = add(s[i], v[i]);
     }

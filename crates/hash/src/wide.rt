@@ -73,9 +73,17 @@ fn t2(a: u64, b: u64, c: u64) -> u64
 fn round(s: [u64; 8], k: u64, w: u64) -> [u64; 8]
     ensures { λ r. ⌜ r ≡ sha.round wide s k w ⌝ }
 {
-    let x = t1(s[4], s[5], s[6], s[7], k, w);
-    let y = t2(s[0], s[1], s[2]);
-    [add(x, y), s[0], s[1], s[2], add(s[3], x), s[4], s[5], s[6]]
+    let a = s[0];
+    let b = s[1];
+    let c = s[2];
+    let d = s[3];
+    let e = s[4];
+    let f = s[5];
+    let g = s[6];
+    let h = s[7];
+    let x = t1(e, f, g, h, k, w);
+    let y = t2(a, b, c);
+    [add(x, y), a, b, c, add(d, x), e, f, g]
 }
 
 fn mix(w2: u64, w7: u64, w15: u64, w16: u64) -> u64
@@ -122,7 +130,7 @@ fn rounds(w: [u64; 80], s: [u64; 8], k: &[u64; 80]) -> [u64; 8]
 fn sums(s: [u64; 8], v: [u64; 8]) -> [u64; 8]
     ensures { λ r. ⌜ r ≡ sha.sums wide s v ⌝ }
 {
-    let mut out = s;
+    let mut out = [0u64; 8];
     for i in 0..8 {
         out[i] = add(s[i], v[i]);
     }
