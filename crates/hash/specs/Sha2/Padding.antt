@@ -39,25 +39,6 @@ fronts p f q g h e =
     sym (take-append-seam p f) ∙ (λ i. take (l i) (e i)) ∙ take-append-seam q g
 
 module _ (C : Core) (positive : 0 < blockSize C) where
-  -- the zeros: none where the rest ends at a block, else what is missing
-  data Zeros (n : ℕ) : Type 0 where
-    full : (n + 1 + fieldSize C) % blockSize C ≡ 0 → zeros C n ≡ 0 → Zeros n
-    short : 0 < (n + 1 + fieldSize C) % blockSize C → zeros C n ≡ blockSize C - (n + 1 + fieldSize C) % blockSize C → Zeros n
-
-  zeros-case : (n : ℕ) → Zeros n
-  unfolding zeros
-  zeros-case n =
-      let B : ℕ = blockSize C in
-      let r : ℕ = (n + 1 + fieldSize C) % B in
-      let h : r < B = mod-lt (n + 1 + fieldSize C) positive in
-      elim (decLe 1 r) [
-        | yes l ↦ short l (mod-eq-of-lt (omega arith))
-        | no l ↦
-            let z : r ≡ 0 = omega arith in
-            let f : B - r ≡ B = omega arith in
-            full z (ap (λ (k : ℕ). k % B) f ∙ mod-self B)
-      ]
-
   -- where r bytes begin the block that takes the rest, the zeros fill it
   pub zeros-after : (n j r : ℕ) → n + 1 + fieldSize C ≡ j * blockSize C + r → 0 < r → r ≤ blockSize C → zeros C n ≡ blockSize C - r
   unfolding zeros
@@ -73,6 +54,13 @@ module _ (C : Core) (positive : 0 < blockSize C) where
             ap (λ (k : ℕ). (B - k % B) % B) e ∙ ap (λ (k : ℕ). (B - k) % B) (digits-mod j {m = B} {r = r} (omega arith)) ∙ mod-eq-of-lt (omega arith)
       ]
 
+  -- so they do where the last of the other bytes stands at its place in a block
+  zeros-is : (n : ℕ) → zeros C n ≡ blockSize C - ((n + fieldSize C) % blockSize C + 1)
+  zeros-is n =
+      let x : ℕ = n + fieldSize C in
+      let h : x % blockSize C < blockSize C = mod-lt x positive in
+      zeros-after n (x / blockSize C) (x % blockSize C + 1) (omega (arith, div-add-mod' x (blockSize C))) (omega arith) (omega arith)
+
   -- whole blocks before them play no part
   pub zeros-rest : (n : ℕ) → zeros C (n % blockSize C) ≡ zeros C n
   unfolding zeros
@@ -87,34 +75,23 @@ module _ (C : Core) (positive : 0 < blockSize C) where
   pub ends-at-block : (n : ℕ) → (n + 1 + zeros C n + fieldSize C) % blockSize C ≡ 0
   ends-at-block n =
       let B : ℕ = blockSize C in
-      let x : ℕ = n + 1 + fieldSize C in
-      let d : x / B * B + x % B ≡ x = div-add-mod' x B in
+      let x : ℕ = n + fieldSize C in
       let h : x % B < B = mod-lt x positive in
-      elim (zeros-case n) [
-        | full z e ↦
-            let s : n + 1 + zeros C n + fieldSize C ≡ x = omega arith in
-            ap (λ (k : ℕ). k % B) s ∙ z
-        | short z e ↦
-            let s : n + 1 + zeros C n + fieldSize C ≡ suc (x / B) * B = omega arith in
-            ap (λ (k : ℕ). k % B) s ∙ mul-mod-left (suc (x / B)) B
-      ]
+      let s : n + 1 + zeros C n + fieldSize C ≡ suc (x / B) * B = omega (arith, div-add-mod' x B, zeros-is n) in
+      ap (λ (k : ℕ). k % B) s ∙ mul-mod-left (suc (x / B)) B
 
   -- and no smaller number of zeros makes it so
   pub fewest-zeros : (n z : ℕ) → (n + 1 + z + fieldSize C) % blockSize C ≡ 0 → zeros C n ≤ z
   fewest-zeros n z m =
       let B : ℕ = blockSize C in
-      let x : ℕ = n + 1 + fieldSize C in
-      let d : x / B * B + x % B ≡ x = div-add-mod' x B in
-      elim (zeros-case n) [
-        | full r e ↦ omega arith
-        | short r e ↦ elim (decLe (zeros C n) z) [
-          | yes l ↦ l
-          | no l ↦
-              let s : n + 1 + z + fieldSize C ≡ x / B * B + (x % B + z) = omega arith in
-              let lt : x % B + z < B = omega arith in
-              let q : x % B + z ≡ 0 = sym (digits-mod (x / B) lt) ∙ ap (λ (k : ℕ). k % B) (sym s) ∙ m in
-              absurd (omega arith)
-        ]
+      let x : ℕ = n + fieldSize C in
+      elim (decLe (zeros C n) z) [
+        | yes l ↦ l
+        | no l ↦
+            let s : n + 1 + z + fieldSize C ≡ x / B * B + (x % B + 1 + z) = omega (arith, div-add-mod' x B) in
+            let lt : x % B + 1 + z < B = omega (arith, zeros-is n) in
+            let q : x % B + 1 + z ≡ 0 = sym (digits-mod (x / B) lt) ∙ ap (λ (k : ℕ). k % B) (sym s) ∙ m in
+            absurd (omega arith)
       ]
 
   field-length : (n : ℕ) → length (lengthField C n) ≡ fieldSize C
