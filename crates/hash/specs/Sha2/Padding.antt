@@ -3,7 +3,7 @@
 use mathlib.Core.Path.{_≡_, refl, sym, ap, _∙_}
 use mathlib.Core.List.{List, [], _∷_, _++_, append-assoc, flatten}
 use Prim.Native.Nat.{ℕ, zero, suc, _+_, _-_, _*_, _/_, _%_, _≤_, _<_}
-use native.Mathlib.Nat.{add-assoc, mod-add-mod, mod-lt, mod-eq-of-lt, mod-self, mul-mod-left, div-add-mod'}
+use native.Mathlib.Nat.{mod-add-mod, mod-lt, mod-eq-of-lt, mod-self, mul-mod-left, div-add-mod'}
 use native.Mathlib.Decide.{decLe}
 use native.Mathlib.Omega.{arith}
 use lib.Arith.{digits-mod}
@@ -54,22 +54,17 @@ module _ (C : Core) (positive : 0 < blockSize C) where
             ap (λ (k : ℕ). (B - k % B) % B) e ∙ ap (λ (k : ℕ). (B - k) % B) (digits-mod j {m = B} {r = r} (omega arith)) ∙ mod-eq-of-lt (omega arith)
       ]
 
-  -- so they do where the last of the other bytes stands at its place in a block
+  -- in one equation: what the block lacks that the last of the other bytes stands in
   zeros-is : (n : ℕ) → zeros C n ≡ blockSize C - ((n + fieldSize C) % blockSize C + 1)
   zeros-is n =
       let x : ℕ = n + fieldSize C in
       let h : x % blockSize C < blockSize C = mod-lt x positive in
       zeros-after n (x / blockSize C) (x % blockSize C + 1) (omega (arith, div-add-mod' x (blockSize C))) (omega arith) (omega arith)
 
-  -- whole blocks before them play no part
+  -- whole blocks of the message play no part
   pub zeros-rest : (n : ℕ) → zeros C (n % blockSize C) ≡ zeros C n
-  unfolding zeros
   zeros-rest n =
-      let B : ℕ = blockSize C in
-      let F : ℕ = fieldSize C in
-      ap (λ (k : ℕ). (B - k % B) % B) (add-assoc (n % B) 1 F)
-      ∙ ap (λ (k : ℕ). (B - k) % B) (mod-add-mod n B (1 + F))
-      ∙ ap (λ (k : ℕ). (B - k % B) % B) (sym (add-assoc n 1 F))
+      zeros-is (n % blockSize C) ∙ ap (λ (k : ℕ). blockSize C - (k + 1)) (mod-add-mod n (blockSize C) (fieldSize C)) ∙ sym (zeros-is n)
 
   -- the padded message ends at a block
   pub ends-at-block : (n : ℕ) → (n + 1 + zeros C n + fieldSize C) % blockSize C ≡ 0
