@@ -1,7 +1,8 @@
 -- The hashes that we make: their numbers and their sizes (docs/PROTOCOL.md, "The hashes"). Assumes nothing.
 pub mod Laws
+use mathlib.Core.Path.{_≡_}
 use mathlib.Core.Bool.{Bool, cond, _||_}
-use Prim.Native.Nat.{ℕ}
+use Prim.Native.Nat.{ℕ, _*_, _≤_, _<_}
 use lib.Dec.{eqb}
 use Rattle.algorithm.specs.declared.hashes.Hash.{Hash}
 use Rattle.algorithm.specs.declared.hashes.Hash.the-variants.{Sha256, Sha512}
@@ -39,3 +40,11 @@ hashOf n = cond (eqb n (numberOf Sha512)) Sha512 Sha256
 -- what `which` answers
 abbrev pub whichOf : ℕ → Named
 whichOf n = cond (names n) (Is (hashOf n)) Unknown
+
+-- what is known of the sizes of a hash: the shortest tag is half a digest, a digest has a byte and fits a block, and the largest of both
+pub record Sizes (h : Hash) : Type 0 where
+  pub half : 2 * shortestOf h ≡ sizeOf h
+  pub some : 0 < sizeOf h
+  pub most : sizeOf h ≤ 64
+  pub fits : sizeOf h ≤ blockOf h
+  pub block : blockOf h ≤ 128

@@ -1,8 +1,14 @@
 -- Bytes cut into blocks, over the size of a block, and a step folded over them. Assumes nothing.
 pub mod Laws
+use mathlib.Core.Path.{_≡_}
 use mathlib.Core.List.{List, [], _∷_, foldl}
 use Prim.Native.Nat.{ℕ, zero, suc, _*_, _/_}
 use lib.ListN.{length, take, drop}
+
+-- every list of a list has B elements
+pub data Sized (B : ℕ) : List (List ℕ) → Type 0 where
+  none : Sized B []
+  more : {b : List ℕ} {bs : List (List ℕ)} → length b ≡ B → Sized B bs → Sized B (b ∷ bs)
 
 module _ (B : ℕ) where
   -- the first n blocks of the bytes

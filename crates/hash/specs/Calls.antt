@@ -17,6 +17,13 @@ use Rattle.hash.specs.declared.state.State.{State}
 use Rattle.hash.specs.declared.state.Started.{Started}
 use Rattle.hash.specs.declared.state.Fed.{Fed}
 
+-- an answer with a state
+abbrev pub fed : ℕ → State → Fed
+fed n s = record { number = n; state = s }
+
+abbrev pub started : ℕ → State → Started
+started n s = record { number = n; state = s }
+
 -- start(number)
 abbrev pub startChecks : ℕ → List Check
 startChecks n = check (names n) unknownHash ∷ []

@@ -16,8 +16,8 @@ use Rattle.algorithm.specs.Hashes.{names, hashOf, blockOf}
 use Rattle.algorithm.specs.Refusals.{done, mostBytes}
 use Rattle.hmac.specs.Keyed.{freshKeyed}
 use Rattle.hmac.specs.Keyed.Laws.{keyed-held, keyed-count}
-use Rattle.hmac.specs.Calls.{startChecks, fitChecks, startOf, updateOf}
-use Rattle.hmac.specs.Calls.Laws.{fed, start-number, start-accepted, start-done, update-too-long, update-accepted}
+use Rattle.hmac.specs.Calls.{startChecks, fitChecks, startOf, updateOf, fed}
+use Rattle.hmac.specs.Calls.Laws.{start-number, start-accepted, start-done, update-too-long, update-accepted}
 use Rattle.hmac.specs.Pieces.Laws.{fresh-message}
 use Rattle.hmac.specs.Inside.{Taken}
 use Rattle.hmac.specs.declared.keyed.Keyed.{Keyed}

@@ -24,6 +24,13 @@ use Rattle.hmac.specs.declared.keyed.Fed.{Fed}
 abbrev pub allowed : Hash → ℕ → Bool
 allowed h t = leb (shortestOf h) t && leb t (sizeOf h)
 
+-- an answer with a keyed state
+abbrev pub started : ℕ → Keyed → Started
+started n k = record { number = n; keyed = k }
+
+abbrev pub fed : ℕ → Keyed → Fed
+fed n k = record { number = n; keyed = k }
+
 -- start(number, key)
 abbrev pub startChecks : ℕ → List ℕ → List Check
 startChecks n key = check (names n) unknownHash ∷ check (leb (length key) mostBytes) keyTooLong ∷ []

@@ -4,6 +4,8 @@ pub mod Laws
 use mathlib.Core.Path.{_≡_}
 use mathlib.Core.List.{List, _++_}
 use Prim.Native.Nat.{ℕ}
+use Rattle.algorithm.specs.Pieces.{Work}
+use Rattle.hmac.specs.Keyed.{HeldKeyed, afterKeyed}
 use Rattle.hmac.specs.Calls.{updateOf}
 use Rattle.hmac.specs.declared.keyed.Keyed.{Keyed}
 use Rattle.hmac.specs.declared.keyed.Fed.{Fed}
@@ -17,3 +19,7 @@ given k p = (updateOf k p .number, updateOf k p .keyed)
 pub data Leads : Keyed → List ℕ → Keyed → Type 0 where
   one : {k : Keyed} {p : List ℕ} {f : Fed} → f ≡ updateOf k p → Leads k p (f .keyed)
   more : {k last : Keyed} (p : List ℕ) {m : List ℕ} {f : Fed} → f ≡ updateOf k p → Leads (f .keyed) m last → Leads k (p ++ m) last
+
+-- work in pieces, as algorithm's laws of a run take it
+abbrev pub work : Work Keyed
+work = record { update = given; after = afterKeyed; count = λ k. k .count; Held = HeldKeyed }

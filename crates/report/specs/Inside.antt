@@ -31,6 +31,12 @@ siteHere s at = record {
   blocks = numberAt s (at + getD s at 0 + 9) 4;
 }
 
+-- where a site of some bytes stands: it starts behind those before it, and the next one behind it
+pub record Stands (l : List ℕ) (xs : List Site) (place : ℕ) : Type 0 where
+  pub here : siteOf xs place ≡ siteHere l (before xs place)
+  pub room : before xs place + getD l (before xs place) 0 + 13 ≤ length l
+  pub next : before xs (suc place) ≡ before xs place + getD l (before xs place) 0 + 13
+
 -- such a site fits, and the next one starts behind it
 pub record Fits (body : List ℕ) (at : ℕ) : Type 0 where
   pub room : at + getD body at 0 + 13 ≤ length body

@@ -4,7 +4,7 @@ use mathlib.Core.Bool.{Bool, true, false, cond}
 use Prim.Native.Nat.{ℕ, _*_, _≤_, _<_}
 use native.Mathlib.Omega.{arith}
 use lib.Dec.{lit<, lit≤}
-use Rattle.algorithm.specs.Hashes.{blockOf, sizeOf, shortestOf}
+use Rattle.algorithm.specs.Hashes.{blockOf, sizeOf, shortestOf, Sizes}
 use Rattle.algorithm.specs.declared.hashes.Hash.{Hash}
 use Rattle.algorithm.specs.declared.hashes.Hash.the-variants.{Sha256, Sha512}
 use Rattle.algorithm.specs.declared.hashes.Named.the-variants.{Is, Unknown}
@@ -18,14 +18,7 @@ pub known : (b : Bool) (g h : Hash) → cond b (Is g) Unknown ≡ Is h → (b �
 known true g h e = (refl, cc)
 known false g h e = let z : _≡_ {A = ℕ} 0 1 = cc in absurd (omega arith)
 
--- the sizes of a hash, by the hashes that we make
-pub record Sizes (h : Hash) : Type 0 where
-  pub half : 2 * shortestOf h ≡ sizeOf h
-  pub some : 0 < sizeOf h
-  pub most : sizeOf h ≤ 64
-  pub fits : sizeOf h ≤ blockOf h
-  pub block : blockOf h ≤ 128
-
+-- the sizes, by the hashes that we make
 pub sizes : (h : Hash) → Sizes h
 sizes Sha256 = record { half = refl; some = lit< tt; most = lit≤ tt; fits = lit≤ tt; block = lit≤ tt }
 sizes Sha512 = record { half = refl; some = lit< tt; most = lit≤ tt; fits = lit≤ tt; block = lit≤ tt }

@@ -2,45 +2,30 @@
 -- stands after the bytes taken, given in one. Assumes nothing.
 use mathlib.Core.Path.{_≡_, refl, sym, ap, subst, _∙_}
 use mathlib.Core.List.{List, [], _∷_, _++_, flatten}
-use Prim.Native.Nat.{ℕ, _+_, _≤_, _<_}
+use Prim.Native.Nat.{ℕ, _+_, _≤_}
 use native.Mathlib.Omega.{arith}
 use native.Mathlib.Decide.{decLe}
 use lib.ListN.{length, length-append}
-use Rattle.algorithm.specs.Refusals.{done, messageTooLong, mostBytes}
-use Rattle.algorithm.specs.Pieces.{afterAll, takenOf, Cut}
+use Rattle.algorithm.specs.Refusals.{messageTooLong, mostBytes}
+use Rattle.algorithm.specs.Pieces.{Work, Taking, afterAll, takenOf, Cut}
 use Rattle.algorithm.specs.Pieces.Cut.{end, piece, between}
 
--- what a layer shows of its state, for the laws below
-pub record Taking (S : Type 0) : Type 1 where
-  -- the call, and the state after bytes that it takes
-  pub update : S → List ℕ → ℕ × S
-  pub after : S → List ℕ → S
-  -- the bytes taken so far, and a sound state as the code can hold one
-  pub count : S → ℕ
-  pub Held : S → Type 0
-  pub taken : (s : S) (p : List ℕ) → Held s → count s + length p ≤ mostBytes → update s p ≡ (done, after s p)
-  pub too-long : (s : S) (p : List ℕ) → Held s → mostBytes < count s + length p → update s p ≡ (messageTooLong, s)
-  pub after-nothing : (s : S) → Held s → after s [] ≡ s
-  pub after-append : (s : S) (p q : List ℕ) → Held s → after (after s p) q ≡ after s (p ++ q)
-  pub after-count : (s : S) (p : List ℕ) → count (after s p) ≡ count s + length p
-  pub after-held : (s : S) (p : List ℕ) → Held s → count s + length p ≤ mostBytes → Held (after s p)
-
-module _ {S : Type 0} (w : Taking S) where
+module _ {S : Type 0} {w : Work S} (t : Taking w) where
   -- a piece keeps a sound state sound, taken or refused
   pub update-held : (s : S) (p : List ℕ) → w .Held s → w .Held (w .update s p .1)
   update-held s p h = elim (decLe (w .count s + length p) mostBytes) [
-    | yes l ↦ subst (λ (r : ℕ × S). w .Held (r .1)) (sym (w .taken s p h l)) (w .after-held s p h l)
-    | no l ↦ subst (λ (r : ℕ × S). w .Held (r .1)) (sym (w .too-long s p h (omega arith))) h
+    | yes l ↦ subst (λ (r : ℕ × S). w .Held (r .1)) (sym (t .taken s p h l)) (t .after-held s p h l)
+    | no l ↦ subst (λ (r : ℕ × S). w .Held (r .1)) (sym (t .too-long s p h (omega arith))) h
   ]
 
   -- after any pieces, refused ones among them, the state is the definition's for the bytes taken
   pub after-all : (ps : List (List ℕ)) (s : S) → w .Held s → afterAll (w .update) s ps ≡ w .after s (takenOf (w .update) s ps)
   unfolding afterAll takenOf
-  after-all [] s h = sym (w .after-nothing s h)
+  after-all [] s h = sym (t .after-nothing s h)
   after-all (p ∷ ps) s h = elim (decLe (w .count s + length p) mostBytes) [
     | yes l ↦
-        rw (w .taken s p h l) (after-all ps (w .after s p) (w .after-held s p h l) ∙ w .after-append s p (takenOf (w .update) (w .after s p) ps) h)
-    | no l ↦ let e : w .update s p ≡ (messageTooLong, s) = w .too-long s p h (omega arith) in rw e (after-all ps s h)
+        rw (t .taken s p h l) (after-all ps (w .after s p) (t .after-held s p h l) ∙ t .after-append s p (takenOf (w .update) (w .after s p) ps) h)
+    | no l ↦ let e : w .update s p ≡ (messageTooLong, s) = t .too-long s p h (omega arith) in rw e (after-all ps s h)
   ]
 
   -- and it is sound
@@ -56,8 +41,8 @@ module _ {S : Type 0} (w : Taking S) where
   all-taken (p ∷ ps) s h l =
       let n : length (p ++ flatten ps) ≡ length p + length (flatten ps) = length-append p (flatten ps) in
       let f : w .count s + length p ≤ mostBytes = omega arith in
-      let c : w .count (w .after s p) ≡ w .count s + length p = w .after-count s p in
-      rw (w .taken s p h f) (ap (λ (r : List ℕ). p ++ r) (all-taken ps (w .after s p) (w .after-held s p h f) (omega arith)))
+      let c : w .count (w .after s p) ≡ w .count s + length p = t .after-count s p in
+      rw (t .taken s p h f) (ap (λ (r : List ℕ). p ++ r) (all-taken ps (w .after s p) (t .after-held s p h f) (omega arith)))
 
   -- so bytes cut anywhere lead to one state
   pub cut-anywhere : (ps qs : List (List ℕ)) (s : S) → w .Held s → flatten ps ≡ flatten qs → w .count s + length (flatten ps) ≤ mostBytes
@@ -73,5 +58,5 @@ module _ {S : Type 0} (w : Taking S) where
   cut-taken end s h e = refl
   cut-taken (piece p {ps = ps} l c) s h e =
       let f : w .count s + length p ≤ mostBytes = omega arith in
-      rw (w .taken s p h f) (ap (λ (r : List ℕ). p ++ r) (cut-taken c (w .after s p) (w .after-held s p h f) (omega (arith, w .after-count s p))))
-  cut-taken (between p l c) s h e = rw (w .too-long s p h (omega arith)) (cut-taken c s h e)
+      rw (t .taken s p h f) (ap (λ (r : List ℕ). p ++ r) (cut-taken c (w .after s p) (t .after-held s p h f) (omega (arith, t .after-count s p))))
+  cut-taken (between p l c) s h e = rw (t .too-long s p h (omega arith)) (cut-taken c s h e)

@@ -8,12 +8,8 @@ use native.Mathlib.Omega.{arith}
 use lib.ListN.{length, take, drop, length-append, length-drop, drop-of-length-le, take-append-drop}
 use lib.Seq.{take-append-le, drop-append-le, drop-drop, take-length, take-add, length-take-le}
 use Rattle.octets.specs.Parts.{part-all}
-use Rattle.hash.specs.Blocks.{firstBlocks, wholeBlocks, leftOver, wordsAfter}
-
--- every list of a list has B elements
-pub data Sized (B : ℕ) : List (List ℕ) → Type 0 where
-  none : Sized B []
-  more : {b : List ℕ} {bs : List (List ℕ)} → length b ≡ B → Sized B bs → Sized B (b ∷ bs)
+use Rattle.hash.specs.Blocks.Sized.{none, more}
+use Rattle.hash.specs.Blocks.{Sized, firstBlocks, wholeBlocks, leftOver, wordsAfter}
 
 module _ (B : ℕ) where
   -- what stands behind n blocks plays no part in them

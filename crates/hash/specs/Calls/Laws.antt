@@ -14,17 +14,9 @@ use Rattle.hash.specs.State.Laws.{fresh-held, zero-held}
 use Rattle.algorithm.specs.Checks.{Fail, Pass, written}
 use Rattle.algorithm.specs.Checks.Refusing.{none}
 use Rattle.algorithm.specs.Checks.Laws.{exactly, exactly-done, refuses, refused-given}
-use Rattle.hash.specs.Calls.{startChecks, updateChecks, finishChecks, digestChecks, startOf, updateOf, finishOf, digestAnswer}
+use Rattle.hash.specs.Calls.{started, fed, startChecks, updateChecks, finishChecks, digestChecks, startOf, updateOf, finishOf, digestAnswer}
 use Rattle.hash.specs.declared.state.State.{State}
 use Rattle.hash.specs.declared.state.Started.{Started}
-use Rattle.hash.specs.declared.state.Fed.{Fed}
-
--- an answer with a state
-abbrev pub fed : ℕ → State → Fed
-fed n s = record { number = n; state = s }
-
-abbrev pub started : ℕ → State → Started
-started n s = record { number = n; state = s }
 
 module _ (n : ℕ) where
   pub start-accepted : names n ≡ true → startOf n ≡ started done (freshOf (hashOf n))

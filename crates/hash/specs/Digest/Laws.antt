@@ -1,11 +1,10 @@
 -- Laws of the hashes that we make, for the layers above: their sizes are those of the algorithm crate, a digest has its size,
 -- the padded blocks are counted by the length and shared by no two messages. Assumes nothing.
 use mathlib.Core.Path.{_≡_, refl, ap, subst, _∙_}
-use mathlib.Core.Bool.{true}
 use mathlib.Core.List.{List, [], _∷_, foldl}
-use Prim.Native.Nat.{ℕ, _+_, _*_, _/_, _^_, _≤_, _<_}
+use Prim.Native.Nat.{ℕ, _+_, _*_, _/_, _≤_, _<_}
 use native.Mathlib.Omega.{arith}
-use lib.Dec.{ltb, lit≤}
+use lib.Dec.{lit≤}
 use lib.ListN.{length}
 use lib.Seq.{length-take-le}
 use Rattle.octets.specs.Every.{every}
@@ -14,23 +13,13 @@ use Rattle.algorithm.specs.declared.hashes.Hash.the-variants.{Sha256, Sha512}
 use Rattle.algorithm.specs.Hashes.{blockOf, sizeOf}
 use Rattle.hash.specs.Table.{first64, first32}
 use Rattle.hash.specs.Description.{Core, describe, narrow, wide}
-use Rattle.hash.specs.Blocks.Laws.{Sized}
+use Rattle.hash.specs.Blocks.{Sized}
 use Rattle.hash.specs.Sha2.{wordSize, blockSize, fieldSize, zeros, step, spell, keep, digest, digestFrom, blocks}
 use Rattle.hash.specs.Sha2.Laws.{step-length, spell-length}
 use Rattle.hash.specs.Sha2.Padding.{blocks-count, blocks-sized, blocks-injective}
-use Rattle.hash.specs.Digest.{blocksOf, fromBlocks, digestOf, blockCountOf}
+use Rattle.hash.specs.Digest.{blocksOf, fromBlocks, digestOf, blockCountOf, Described}
 
--- what we know of the description of a hash: its sizes are those of the algorithm crate, a word has four to eight bytes, no more
--- is kept than eight words have, and the first words are eight that fit
-pub record Described (h : Hash) : Type 0 where
-  pub block-is : blockSize (describe h .core) ≡ blockOf h
-  pub kept-is : describe h .kept ≡ sizeOf h
-  pub word-least : 4 ≤ wordSize (describe h .core)
-  pub word-most : wordSize (describe h .core) ≤ 8
-  pub kept-most : describe h .kept ≤ 8 * wordSize (describe h .core)
-  pub first-eight : length (describe h .first) ≡ 8
-  pub first-fits : every (λ x. ltb x (2 ^ (describe h .core .width))) (describe h .first) ≡ true
-
+-- the description, by the hashes that we make
 pub described : (h : Hash) → Described h
 unfolding blockSize every describe narrow wide first32 first64
 described Sha256 =

@@ -17,20 +17,16 @@ use Rattle.hash.specs.State.Laws.{after-nothing, after-append, after-hel
 use Rattle.hash.specs.Calls.{startOf, updateOf, finishOf, digestAnswer}
 use Rattle.algorithm.specs.Checks.{written}
 use Rattle.hash.specs.Calls.Laws.{start-accepted, start-refused, start-held, update-accepted, update-too-long, finish-accepted, finish-wrong-size, digest-unknown, digest-too-long, digest-accepted, digest-wrong-size}
-use Rattle.algorithm.specs.Pieces.{afterAll, takenOf, Cut}
-use Rattle.algorithm.specs.Pieces.Laws.{Taking, after-all, all-held, cut-taken}
-use Rattle.hash.specs.Pieces.{given}
+use Rattle.algorithm.specs.Pieces.{Taking, afterAll, takenOf, Cut}
+use Rattle.algorithm.specs.Pieces.Laws.{after-all, all-held, cut-taken}
+use Rattle.hash.specs.Pieces.{given, work}
 use Rattle.hash.specs.declared.state.State.{State}
 use Rattle.hash.specs.declared.state.Started.{Started}
 use Rattle.hash.specs.declared.state.Fed.{Fed}
 
 -- what the laws of a run need to know of a state
-abbrev pub taking : Taking State
+pub taking : Taking work
 taking = record {
-  update = given;
-  after = afterOf;
-  count = λ s. s .count;
-  Held = Held;
   taken = λ s p h l. ap both (update-accepted s p (h .sound) l);
   too-long = λ s p h l. ap both (update-too-long s p (h .sound) l);
   after-nothing = after-nothing;

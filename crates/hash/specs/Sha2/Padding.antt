@@ -11,7 +11,8 @@ use lib.ListN.{length, take, replicate, length-append, length-replicate}
 use lib.Seq.{take-append-seam}
 use Rattle.octets.specs.Number.Laws.{bytes-length}
 use Rattle.hash.specs.Description.{Core}
-use Rattle.hash.specs.Blocks.Laws.{Sized, whole-length, whole-sized, whole-flat}
+use Rattle.hash.specs.Blocks.{Sized}
+use Rattle.hash.specs.Blocks.Laws.{whole-length, whole-sized, whole-flat}
 use Rattle.hash.specs.Sha2.{blockSize, fieldSize, zeros, lengthField, padding, blocks}
 
 -- no mark stands in zeros

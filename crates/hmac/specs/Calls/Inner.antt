@@ -13,8 +13,8 @@ use Rattle.hash.specs.declared.state.Fed as hash-fed
 use Rattle.hmac.specs.Keyed.{innerOf, joined, soundKeyed}
 use Rattle.hmac.specs.Keyed.Laws.{sound-inner}
 use Rattle.hmac.specs.Keyed.Open.{after-is}
-use Rattle.hmac.specs.Calls.{updateOf}
-use Rattle.hmac.specs.Calls.Laws.{fed, update-too-long, update-accepted}
+use Rattle.hmac.specs.Calls.{updateOf, fed}
+use Rattle.hmac.specs.Calls.Laws.{update-too-long, update-accepted}
 use Rattle.hmac.specs.declared.keyed.Keyed.{Keyed}
 
 module _ (k : Keyed) (p : List ℕ) (ok : soundKeyed k ≡ true) {f : hash-fed.Fed} (e : f ≡ hash.updateOf (innerOf k) p) where

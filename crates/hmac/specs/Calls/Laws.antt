@@ -20,17 +20,8 @@ use Rattle.algorithm.specs.Checks.Laws.{exactly, exactly-done, passes-done, don
 use Rattle.hmac.specs.Hmac.{tagOf}
 use Rattle.hmac.specs.Hmac.Laws.{tag-length}
 use Rattle.hmac.specs.Keyed.{Message, soundKeyed, freshKeyed, zeroKeyed, afterKeyed, fullTag}
-use Rattle.hmac.specs.Calls.{allowed, startChecks, updateChecks, lengthChecks, compareChecks, tagChecks, verifyChecks, fitChecks, takenChecks, messageChecks, verifyMessageChecks, startOf, updateOf, tagAnswer, verifyAnswer, tagMessageAnswer, verifyMessageAnswer}
+use Rattle.hmac.specs.Calls.{started, fed, allowed, startChecks, updateChecks, lengthChecks, compareChecks, tagChecks, verifyChecks, fitChecks, takenChecks, messageChecks, verifyMessageChecks, startOf, updateOf, tagAnswer, verifyAnswer, tagMessageAnswer, verifyMessageAnswer}
 use Rattle.hmac.specs.declared.keyed.Keyed.{Keyed}
-use Rattle.hmac.specs.declared.keyed.Started.{Started}
-use Rattle.hmac.specs.declared.keyed.Fed.{Fed}
-
--- an answer with a keyed state
-abbrev pub started : ℕ → Keyed → Started
-started n k = record { number = n; keyed = k }
-
-abbrev pub fed : ℕ → Keyed → Fed
-fed n k = record { number = n; keyed = k }
 
 -- a tag length in its range, and one below it
 module _ (h : Hash) (t : ℕ) where

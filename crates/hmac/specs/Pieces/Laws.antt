@@ -15,21 +15,17 @@ use Rattle.hmac.specs.Keyed.{Message, innerOf, HeldKeyed, freshKeyed, af
 use Rattle.hmac.specs.Keyed.Laws.{sound-inner, keyed-hash, keyed-count, keyed-held, keyed-after-hash, keyed-after-count, keyed-after-held, keyed-after-append, keyed-after-nothing, full-fresh}
 use Rattle.hmac.specs.Calls.{startOf, updateOf, tagAnswer, verifyAnswer, tagMessageAnswer, verifyMessageAnswer}
 use Rattle.hmac.specs.Calls.Laws.{start-accepted, update-too-long, update-accepted, message-tag, message-verify}
-use Rattle.algorithm.specs.Pieces.{afterAll, takenOf, Cut}
-use Rattle.algorithm.specs.Pieces.Laws.{Taking, after-all, all-held, cut-taken}
-use Rattle.hmac.specs.Pieces.{given, Leads}
+use Rattle.algorithm.specs.Pieces.{Taking, afterAll, takenOf, Cut}
+use Rattle.algorithm.specs.Pieces.Laws.{after-all, all-held, cut-taken}
+use Rattle.hmac.specs.Pieces.{given, work, Leads}
 use Rattle.hmac.specs.Pieces.Leads.{one, more}
 use Rattle.hmac.specs.declared.keyed.Keyed.{Keyed}
 use Rattle.hmac.specs.declared.keyed.Started.{Started}
 use Rattle.hmac.specs.declared.keyed.Fed.{Fed}
 
 -- what the laws of a run need to know of a keyed state
-abbrev pub taking : Taking Keyed
+pub taking : Taking work
 taking = record {
-  update = given;
-  after = afterKeyed;
-  count = λ k. k .count;
-  Held = HeldKeyed;
   taken = λ k p h l. ap both (update-accepted k p (h .sound) l);
   too-long = λ k p h l. ap both (update-too-long k p (h .sound) l);
   after-nothing = keyed-after-nothing;

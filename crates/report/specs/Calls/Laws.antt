@@ -28,12 +28,12 @@ use Rattle.algorithm.specs.Checks.Laws.{exactly, exactly-done, done-passes, ref
 use Rattle.hmac.specs.Hmac.{tagOf}
 use Rattle.hmac.specs.Calls.{allowed, compareChecks}
 use Rattle.hmac.specs.Calls.Laws.{compared-done}
-use Rattle.report.specs.Reading.{namesHash, hashNamed, namedIn, hashIn, tagSizeIn, tagStart, beforeTag, firstSite, readSites, sitesIn, readChecks, fieldsOf, readOf}
-use Rattle.report.specs.Reading.Laws.{read-refusing, First, first, Passed, passed, passes, passes-then}
+use Rattle.report.specs.Reading.{namesHash, hashNamed, namedIn, hashIn, tagSizeIn, tagStart, beforeTag, firstSite, readSites, sitesIn, readChecks, fieldsOf, readOf, First, Passed}
+use Rattle.report.specs.Reading.Laws.{read-refusing, first, passed, passes, passes-then}
 use Rattle.report.specs.Fingerprint.{fingerprintOf}
 use Rattle.report.specs.Keys.{keysOf}
 use Rattle.report.specs.Layout.{Site, tagSize, liveOf}
-use Rattle.report.specs.Inside.{siteHere, bodySites, refusedReading, headReading}
+use Rattle.report.specs.Inside.{siteHere, Stands, bodySites, refusedReading, headReading}
 use Rattle.report.specs.declared.sites.SiteAt.{SiteAt}
 use Rattle.report.specs.Calls.{readingOf, numbersOf, readIntoChecks, readIntoAnswer, siteNumbers, siteIntoChecks, siteIntoAnswer, siteOf, before, foundSite, refusedSite, Points, placeChecks, siteAnswer, labelAnswer, keyChecks, tagChecks, checkAnswer, fingerprintChecks, fingerprintAnswer, keysChecks, keysAnswer}
 
@@ -107,12 +107,6 @@ here-shift k at l =
     let live = behind (at + getD (drop k l) at 0 + 1) (k + at + getD l (k + at) 0 + 1) (omega arith) in
     let blocks = behind (at + getD (drop k l) at 0 + 9) (k + at + getD l (k + at) 0 + 9) (omega arith) in
     λ i. record { label = take (size i) (label i); live = number (take 8 (live i)); blocks = number (take 4 (blocks i)) }
-
--- where a site of some bytes stands: it starts behind those before it, and the next one behind it
-pub record Stands (l : List ℕ) (xs : List Site) (place : ℕ) : Type 0 where
-  pub here : siteOf xs place ≡ siteHere l (before xs place)
-  pub room : before xs place + getD l (before xs place) 0 + 13 ≤ length l
-  pub next : before xs (suc place) ≡ before xs place + getD l (before xs place) 0 + 13
 
 -- the first one, and one behind it
 module _ (size : ℕ) (l : List ℕ) (room : size + 12 ≤ length l) (xs : List Site) where

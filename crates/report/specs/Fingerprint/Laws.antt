@@ -11,8 +11,8 @@ use lib.Seq.{drop-drop, take-at, drop-at, slice, slice-empty, length-slice}
 use Rattle.octets.specs.Number.Laws.{number-slice, number-between}
 use Rattle.octets.specs.Number.{numberAt, bytes}
 use Rattle.report.specs.Layout.{Fields, sitesBytes, tagSize, AgreeButSendTime}
-use Rattle.report.specs.Reading.{tagSizeIn, tagStart, beforeTag, readSites, fieldsOf, readOf, WellFormed}
-use Rattle.report.specs.Reading.Laws.{behindSent, read-fields, well-formed-passed, tag-low, tag-high, behind-sent}
+use Rattle.report.specs.Reading.{tagSizeIn, tagStart, beforeTag, readSites, fieldsOf, readOf, WellFormed, afterSent}
+use Rattle.report.specs.Reading.Laws.{read-fields, well-formed-passed, tag-low, tag-high, after-sent}
 use Rattle.report.specs.Fingerprint.{gapStart, gapEnd, messageOf}
 
 -- what the fields between the count and the send time spell
@@ -40,12 +40,12 @@ module _ (s : List ℕ) (w : WellFormed s) where
       rw (last, spelled 10 8 18 refl (lit≤ tt), spelled 6 4 10 refl (lit≤ tt), spelled 5 1 6 refl (lit≤ tt), spelled 4 1 5 refl (lit≤ tt))
 
   -- so the message is what the fields but the count and the send time spell
-  message-spelled : messageOf s ≡ beforeSent (fieldsOf s) ++ behindSent (fieldsOf s)
+  message-spelled : messageOf s ≡ beforeSent (fieldsOf s) ++ afterSent (fieldsOf s)
   unfolding messageOf
-  message-spelled = rw (before-sent, behind-sent s w)
+  message-spelled = rw (before-sent, after-sent s w)
 
 -- fields that agree but for the send time spell the same
-spelled-same : (f g : Fields) → AgreeButSendTime f g → beforeSent f ++ behindSent f ≡ beforeSent g ++ behindSent g
+spelled-same : (f g : Fields) → AgreeButSendTime f g → beforeSent f ++ afterSent f ≡ beforeSent g ++ afterSent g
 unfolding beforeSent
 spelled-same f g a =
     λ i.

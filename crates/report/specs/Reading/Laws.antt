@@ -22,8 +22,8 @@ use Rattle.algorithm.specs.Checks.{Check, firstFailing, Pass, Refusing}
 use Rattle.algorithm.specs.Checks.Pass.{all, and}
 use Rattle.algorithm.specs.Checks.Refusing.{none, more}
 use Rattle.algorithm.specs.Checks.Laws.{done-passes, refuses}
-use Rattle.report.specs.Layout.{Site, Fields, siteBytes, sitesBytes, bytesOf, tagSize, smallestReport, largestReport, liveOf}
-use Rattle.report.specs.Reading.{namesHash, hashNamed, tagSizeIn, tagStart, beforeTag, firstSite, withSite, readSites, sitesIn, sitesChecks, readChecks, fieldsOf, readOf, WellFormed}
+use Rattle.report.specs.Layout.{Site, siteBytes, sitesBytes, bytesOf, tagSize, smallestReport, largestReport, liveOf}
+use Rattle.report.specs.Reading.{hashNamed, tagSizeIn, tagStart, beforeTag, firstSite, withSite, readSites, sitesIn, sitesChecks, readChecks, fieldsOf, readOf, WellFormed, First, afterSent, Passed}
 
 -- a report's tag is half a digest of its hash, 32 bytes at most
 pub tag-half : (n : ℕ) → 2 * tagSize n ≡ sizeOf (hashNamed n)
@@ -44,13 +44,6 @@ tag-most n = most (eqb n 2)
 byte-is : (n : ℕ) → ltb n 256 ≡ true → bytes 1 n ≡ n ∷ []
 unfolding number onto every
 byte-is n h = ap (bytes 1) (sym (zero-add n)) ∙ bytes-number 1 (n ∷ []) refl (ap (λ (b : Bool). b && true) h)
-
--- sites that are not refused, of which one is the first
-pub record First (n size : ℕ) (l : List ℕ) : Type 0 where
-  pub range : (leb 1 size && leb size 48) ≡ true
-  pub room : size + 12 ≤ length l
-  pub is : readSites (suc n) (size ∷ l) ≡ withSite (firstSite size l) (readSites n (drop (size + 12) l))
-  pub rest : readSites n (drop (size + 12) l) .0 ≡ done
 
 -- both tests of a site pass where it is not refused, and so it is the first
 both-pass : (b c : Bool) (w : ℕ × List Site) → cond b (cond c w (sitesMisplaced, [])) (labelLengthOutOfRange, []) .0 ≡ done
@@ -122,22 +115,6 @@ sites-refusing w = more (eqb-false (w .0) done) (refuses _ _ none)
 pub read-refusing : (s : List ℕ) → Refusing (readChecks s)
 read-refusing s = refuses _ _ (refuses _ _ (refuses _ _ (refuses _ _ (refuses _ _ (refuses _ _ (sites-refusing (sitesIn s)))))))
 
--- what the fields behind the send time spell
-abbrev pub behindSent : Fields → List ℕ
-behindSent f = bytes 1 (f .attempt) ++ (bytes 8 (f .memory) ++ (bytes 2 (length (f .sites)) ++ sitesBytes (f .sites)))
-
--- what a report has that reading lets pass
-pub record Passed (s : List ℕ) : Type 0 where
-  pub long : smallestReport ≤ length s
-  pub count : numberAt s 0 4 ≡ length s - 4
-  pub version : numberAt s 4 1 ≡ 1
-  pub known : namesHash (numberAt s 5 1) ≡ true
-  pub tag-fits : 45 + tagSizeIn s ≤ length s
-  pub few : numberAt s 43 2 ≤ 64
-  pub placed : sitesIn s .0 ≡ done
-  pub live : liveOf (sitesIn s .1) ≤ largestTotal
-  pub sites : length (sitesIn s .1) ≡ numberAt s 43 2
-
 module _ (s : List ℕ) where
   -- each check that passes says its part
   all-passed : Pass (readChecks s) → Passed s
@@ -204,8 +181,8 @@ module _ (s : List ℕ) where
     spelled at n end e h = number-between s (tagStart s) at n end (w .bytes) e (omega (arith, tag-low)) tag-high
 
     -- the fields behind the send time spell the bytes behind it
-    pub behind-sent : behindSent (fieldsOf s) ≡ slice 34 (tagStart s) s
-    behind-sent =
+    pub after-sent : afterSent (fieldsOf s) ≡ slice 34 (tagStart s) s
+    after-sent =
         let p : Passed s = well-formed-passed in
         let sites = sites-back (numberAt s 43 2) (drop 45 (beforeTag s)) (every-drop _ 45 (beforeTag s) (every-take _ (tagStart s) s (w .bytes))) (p .placed) in
         rw (p .sites, sites, spelled 43 2 45 refl (lit≤ tt), spelled 35 8 43 refl (lit≤ tt), spelled 34 1 35 refl (lit≤ tt))
@@ -215,7 +192,7 @@ module _ (s : List ℕ) where
     unfolding bytesOf
     layout =
         rw (
-          behind-sent,
+          after-sent,
           spelled 26 8 34 refl (lit≤ tt),
           spelled 18 8 26 refl (lit≤ tt),
           spelled 10 8 18 refl (lit≤ tt),

@@ -8,7 +8,8 @@ use denote.Ref.{now}
 use Rattle.algorithm.specs.Refusals.{done}
 use Rattle.hash.specs.State.{soundOf}
 use Rattle.hash.specs.State.Laws.{sound-count}
-use Rattle.hash.specs.Calls.Laws.{fed, update-not-sound, update-too-long, update-accepted}
+use Rattle.hash.specs.Calls.{fed}
+use Rattle.hash.specs.Calls.Laws.{update-not-sound, update-too-long, update-accepted}
 use Rattle.hash.proofs.pieces.update.Statement.{statement}
 use Rattle.hash.proofs.pieces.update.Tie as tie
 

@@ -5,7 +5,8 @@ use Rattle.algorithm.specs.Calls.Laws.{which-unknown, which-is}
 use Rattle.algorithm.specs.Refusals.{done, unknownHash}
 use Rattle.hash.specs.State.{freshOf}
 use Rattle.hash.specs.State.Open.{zero-is}
-use Rattle.hash.specs.Calls.Laws.{start-accepted, start-refused, started}
+use Rattle.hash.specs.Calls.{started}
+use Rattle.hash.specs.Calls.Laws.{start-accepted, start-refused}
 use Rattle.hash.proofs.starting.start.Statement.{statement}
 use Rattle.hash.proofs.starting.start.Tie as tie
 

@@ -7,7 +7,8 @@ use Rattle.algorithm.specs.declared.hashes.Hash.{Hash}
 use Rattle.algorithm.specs.Calls.Laws.{which-unknown, which-is}
 use Rattle.algorithm.specs.Refusals.{done, unknownHash, keyTooLong}
 use Rattle.hmac.specs.Keyed.{freshKeyed}
-use Rattle.hmac.specs.Calls.Laws.{started, start-unknown, start-too-long, start-accepted}
+use Rattle.hmac.specs.Calls.{started}
+use Rattle.hmac.specs.Calls.Laws.{start-unknown, start-too-long, start-accepted}
 use Rattle.hmac.proofs.starting.start.Statement.{statement}
 use Rattle.hmac.proofs.starting.start.Tie as tie
 
