@@ -1,11 +1,11 @@
--- What each public function promises: the outcome predicate that its contract cites. Calls/Unique.antt shows that no second outcome
--- meets it. Assumes nothing.
+-- Believed: what each public function promises: the outcome predicate that its contract cites. Calls/Unique.antt shows that no second
+-- outcome meets it. Assumes nothing.
 pub mod Laws
 pub mod Unique
 use mathlib.Core.Path.{_≡_}
 use mathlib.Core.List.{List, [], _∷_}
 use Prim.Native.Nat.{ℕ}
-use Rattle.algorithm.specs.Hashes.{numberOf, blockOf, sizeOf, shortestOf, names}
+use Rattle.algorithm.specs.Hashes.{hashNumber, blockOf, sizeOf, shortestOf, names}
 use Rattle.algorithm.specs.Refusals.{done, unknownHash}
 use Rattle.algorithm.specs.Checks.{Check, check, firstFailing, decided}
 use Rattle.algorithm.specs.declared.hashes.Hash.{Hash}
@@ -14,10 +14,10 @@ use Rattle.algorithm.specs.declared.hashes.Named.the-variants.{Is, Unkno
 
 -- the number that comes back in each case of `Named`, and its value: that of the hash which is named, and 0 where none is
 abbrev pub answerOf : Named → ℕ × ℕ
-answerOf (Is h) = (done, numberOf h)
+answerOf (Is h) = (done, hashNumber h)
 answerOf Unknown = (unknownHash, 0)
 
--- which(number)
+-- which(hash_number)
 abbrev pub whichChecks : ℕ → List Check
 whichChecks n = check (names n) unknownHash ∷ []
 

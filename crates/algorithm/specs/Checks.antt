@@ -1,4 +1,4 @@
--- Checks in their order: the first that fails gives the number, and decides between the work and what was given.
+-- Believed: checks in their order: the first that fails gives the number, and decides between the work and what was given.
 -- Assumes nothing.
 pub mod Laws
 use mathlib.Core.Path.{_≡_}
@@ -21,7 +21,7 @@ abbrev pub firstFailing : List Check → ℕ
 firstFailing [] = done
 firstFailing (c ∷ cs) = cond (c .passes) (firstFailing cs) (c .number)
 
--- what a call leaves behind: the work where no check fails, else what was given
+-- what a call leaves after: the work where no check fails, else what was given
 abbrev pub decided {ℓ} : {A : Type ℓ} → List Check → A → A → A
 decided cs work given = cond (eqb (firstFailing cs) done) work given
 

@@ -1,4 +1,4 @@
--- The hashes that we make: their numbers and their sizes (docs/PROTOCOL.md, "The hashes"). Assumes nothing.
+-- Believed: the hashes that we make: their numbers and their sizes (docs/PROTOCOL.md, "The hashes"). Assumes nothing.
 pub mod Laws
 use mathlib.Core.Path.{_≡_}
 use mathlib.Core.Bool.{Bool, cond, _||_}
@@ -10,9 +10,9 @@ use Rattle.algorithm.specs.declared.hashes.Named.{Named}
 use Rattle.algorithm.specs.declared.hashes.Named.the-variants.{Is, Unknown}
 
 -- the number that names a hash
-abbrev pub numberOf : Hash → ℕ
-numberOf Sha256 = 1
-numberOf Sha512 = 2
+abbrev pub hashNumber : Hash → ℕ
+hashNumber Sha256 = 1
+hashNumber Sha512 = 2
 
 -- the bytes of a block
 abbrev pub blockOf : Hash → ℕ
@@ -31,11 +31,11 @@ shortestOf Sha512 = 32
 
 -- whether a number names a hash
 abbrev pub names : ℕ → Bool
-names n = eqb n (numberOf Sha256) || eqb n (numberOf Sha512)
+names n = eqb n (hashNumber Sha256) || eqb n (hashNumber Sha512)
 
 -- the hash that a number names, and hash 1 where it names none
 abbrev pub hashOf : ℕ → Hash
-hashOf n = cond (eqb n (numberOf Sha512)) Sha512 Sha256
+hashOf n = cond (eqb n (hashNumber Sha512)) Sha512 Sha256
 
 -- what `which` answers
 abbrev pub whichOf : ℕ → Named

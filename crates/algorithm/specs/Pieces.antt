@@ -1,5 +1,6 @@
--- A run of pieces, over any state: what stands after it, which bytes were taken, and which runs are a message cut anywhere. `update` is the call that is given one piece:
--- the number that it answers, and the state. The laws are in Pieces/Laws.antt. Assumes nothing.
+-- Believed: a run of pieces, over any state: what stands after it, which bytes were taken, and which runs are a message cut anywhere.
+-- `update` is the call that is given one piece: the number that it answers, and the state. The laws are in Pieces/Laws.antt. Assumes
+-- nothing.
 pub mod Laws
 use mathlib.Core.Path.{_≡_}
 use mathlib.Core.Bool.{cond}

@@ -1,4 +1,4 @@
--- The numbers that come back, and the limits that several layers share, by name (docs/PROTOCOL.md, "The numbers that come back").
+-- Believed: the numbers that come back, and the limits that several layers share, by name (docs/PROTOCOL.md, "The numbers that come back").
 -- Assumes nothing.
 use Prim.Native.Nat.{ℕ}
 

@@ -13,10 +13,10 @@ pub enum Named {
 }
 
 // The hash that a number names.
-pub fn which(number: u32) -> Named
-    ensures { λ r. ⌜ WhichOutcome number r ⌝ }
+pub fn which(hash_number: u32) -> Named
+    ensures { λ r. ⌜ WhichOutcome «hash_number» r ⌝ }
 {
-    match number {
+    match hash_number {
         1 => Named::Is(Hash::Sha256),
         2 => Named::Is(Hash::Sha512),
         _ => Named::Unknown,

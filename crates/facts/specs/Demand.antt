@@ -1,5 +1,5 @@
--- Demand 3, as one statement: which keys and reports share the padded blocks that the fingerprint's inner hash is fed, which keys share
--- a form, and that the tag is no field. Its proof is in Demand/Laws.antt. Assumes nothing.
+-- Believed: Demand 3, as one statement: which keys and reports share the padded blocks that the fingerprint's inner hash is fed, which
+-- keys share a form, and that the tag is no field. Its proof is in Demand/Laws.antt. Assumes nothing.
 pub mod Laws
 use mathlib.Core.Path.{_≡_}
 use mathlib.Core.Logic.{_↔_}

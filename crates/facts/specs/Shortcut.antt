@@ -1,5 +1,5 @@
--- A shortcut that looks right: a fingerprint's message that leaves out the length of a label. Two well-formed reports that disagree in
--- their sites would share it. The proof is in Shortcut/Laws.antt. Assumes nothing.
+-- Believed: a shortcut that looks right: a fingerprint's message that leaves out the length of a label. Two well-formed reports that
+-- disagree in their sites would share it. The proof is in Shortcut/Laws.antt. Assumes nothing.
 pub mod Laws
 use mathlib.Core.Path.{_≡_}
 use mathlib.Core.List.{List, _∷_, _++_}

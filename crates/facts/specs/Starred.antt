@@ -1,4 +1,5 @@
--- The twelve starred cases, as one table: the pads and the worked report take two fields each. Its proof is in Starred/Laws.antt. Assumes nothing.
+-- Believed: the twelve starred cases, as one table: the pads and the worked report take two fields each. Its proof is in
+-- Starred/Laws.antt. Assumes nothing.
 pub mod Laws
 use mathlib.Core.Path.{_≡_}
 use mathlib.Core.List.{List, [], _∷_, _++_}
@@ -55,8 +56,8 @@ pub record Starred : Type 0 where
   -- hash 2: a message of 111 bytes has 1 padded block, of 112 bytes 2
   pub wide-111 : (m : List ℕ) → length m ≡ 111 → length (blocksOf Sha512 m) ≡ 1
   pub wide-112 : (m : List ℕ) → length m ≡ 112 → length (blocksOf Sha512 m) ≡ 2
-  -- a zero behind key 01 leaves its form, one before it does not, and no key at all has zeros for a form
-  pub zero-behind : (h : Hash) → formOf h (0x01 ∷ []) ≡ formOf h (0x01 ∷ 0x00 ∷ [])
+  -- a zero after key 01 leaves its form, one before it does not, and no key at all has zeros for a form
+  pub zero-after : (h : Hash) → formOf h (0x01 ∷ []) ≡ formOf h (0x01 ∷ 0x00 ∷ [])
   pub zero-before : (h : Hash) → formOf h (0x01 ∷ []) ≡ formOf h (0x00 ∷ 0x01 ∷ []) → ⊥
   pub empty-key : (h : Hash) → formOf h [] ≡ replicate (blockOf h) 0
   -- key 01, hash 1: how the pads start

@@ -20,13 +20,13 @@ use Rattle.algorithm.specs.Hashes.{sizeOf}
 use Rattle.algorithm.specs.Hashes.Laws.{block-most}
 use Rattle.algorithm.specs.Refusals.{mostBytes}
 use Rattle.hash.specs.Description.{Core, describe}
-use Rattle.hash.specs.Sha2.{wordSize, blockSize, fieldSize, zeros, lengthField, padding, spell, keep}
+use Rattle.hash.specs.Sha2.{wordSize, blockSize, fieldSize, zeroCount, lengthField, padding, spell, keep}
 use Rattle.hash.specs.Sha2.Laws.{spell-length}
 use Rattle.hash.specs.Sha2.Padding.{zeros-after, zeros-rest}
 use Rattle.hash.specs.Digest.Laws.{described}
-use Rattle.hash.specs.State.{places, heldOf, waitingOf, wordsOf, lastWords, endOf}
+use Rattle.hash.specs.State.{largestBlock, waitingCount, waitingOf, wordsOf, lastWords, endOf}
 use Rattle.hash.specs.State.Open.{end-is}
-use Rattle.hash.specs.State.Laws.{held-less}
+use Rattle.hash.specs.State.Laws.{waiting-less}
 use Rattle.hash.specs.Inside.{paddedEnd}
 use Rattle.hash.specs.declared.state.State.{State}
 
@@ -71,7 +71,7 @@ module _ (C : Core) (least : 4 ≤ wordSize C) where
       → 128 ∷ replicate (paddedEnd C (n % blockSize C) - (n % blockSize C + 9)) 0 ++ bytes 8 (8 * n) ≡ padding C n
   unfolding padding lengthField
   padding-is n l =
-      let z : ℕ = zeros C n in
+      let z : ℕ = zeroCount C n in
       let k : ℕ = fieldSize C - 8 in
       let b : List ℕ = bytes 8 (8 * n) in
       let s = sizes in
@@ -82,7 +82,7 @@ module _ (C : Core) (least : 4 ≤ wordSize C) where
       ∙ append-assoc (128 ∷ replicate z 0) (replicate k 0) b
       ∙ ap (λ (r : List ℕ). 128 ∷ replicate z 0 ++ r) f
 
--- the last blocks: zeros, the waiting bytes a, the mark behind them, and the length b at the end
+-- the last blocks: zeros, the waiting bytes a, the mark after them, and the length b at the end
 pub last-is : (a b x y : List ℕ) (at end : ℕ) → length a ≡ at → length b ≡ 8 → at + 9 ≤ end → end ≤ 256
     → x ≡ paste (replicate 256 0) 0 a (length a) → y ≡ paste (set x at 128) (end - 8) b (length b)
     → take end y ≡ a ++ (128 ∷ replicate (end - (at + 9)) 0 ++ b)
@@ -105,17 +105,17 @@ last-is a b x y at end la lb lo hi ex ey =
     e₅ ∙ ap (λ (r : List ℕ). r ++ b) e₇ ∙ append-assoc a (128 ∷ replicate k 0) b
 
 -- the sizes that a state has them with
-pub last-range : (s : State) (at end : ℕ) → at ≡ heldOf s → end ≡ paddedEnd (describe (s .hash) .core) at
-    → (at ≤ places) × (at + 9 ≤ end) × (end ≤ 256)
+pub last-range : (s : State) (at end : ℕ) → at ≡ waitingCount s → end ≡ paddedEnd (describe (s .hash) .core) at
+    → (at ≤ largestBlock) × (at + 9 ≤ end) × (end ≤ 256)
 last-range s at end ea ee =
     let d = described (s .hash) in
-    let h = held-less s in
+    let h = waiting-less s in
     let r = end-range (describe (s .hash) .core) (d .word-least) at (omega arith) in
     let m = block-most (s .hash) in
     (omega arith, omega arith, omega arith)
 
 -- the words after them
-pub last-words-is : (s : State) (at end : ℕ) (l : List ℕ) → s .count ≤ mostBytes → at ≡ heldOf s → end ≡ paddedEnd (describe (s .hash) .core) at
+pub last-words-is : (s : State) (at end : ℕ) (l : List ℕ) → s .count ≤ mostBytes → at ≡ waitingCount s → end ≡ paddedEnd (describe (s .hash) .core) at
     → l ≡ take at (s .waiting) ++ (128 ∷ replicate (end - (at + 9)) 0 ++ bytes 8 (8 * s .count))
     → wordsOf (s .hash) (s .words) l ≡ lastWords s
 last-words-is s at end l h ea ee el =

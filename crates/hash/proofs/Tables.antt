@@ -30,7 +30,7 @@ root-bits e p x c t =
       bits = eqb→eq x (c % 2 ^ 64) (and-r (high e p c) (eqb x (c % 2 ^ 64)) r);
     }
 
--- with one of the numbers below n before the point, x is what stands behind it
+-- with one of the numbers below n before the point, x is what stands after it
 tried : ℕ → ℕ → ℕ → ℕ → Bool
 tried e p x zero = false
 tried e p x (suc n) = root e p x (n * 2 ^ 64 + x) || tried e p x n

@@ -13,8 +13,8 @@ use borrow.Author.Tests.{lt-ltb, le-ltb}
 use Rattle.hash.specs.Word.{Amounts, shr, rotr, big, small}
 
 -- of a word shifted left by k, the width j + k keeps the j lowest bits
-kept : (j k x : ℕ) → (x * 2 ^ k) % 2 ^ (j + k) ≡ x % 2 ^ j * 2 ^ k
-kept j k x =
+low-bits : (j k x : ℕ) → (x * 2 ^ k) % 2 ^ (j + k) ≡ x % 2 ^ j * 2 ^ k
+low-bits j k x =
     ap (λ (m : ℕ). (x * 2 ^ k) % m) (pow-add 2 j k)
     ∙ mod-mul (x * 2 ^ k) (pow-pos j) (pow-pos k)
     ∙ ap₂ (λ (a b : ℕ). a % 2 ^ j * 2 ^ k + b) (mul-div-cancel x (pow-pos k)) (mul-mod-left x (2 ^ k))
@@ -26,7 +26,7 @@ unfolding rotr
 rotr-code w n {x} h hx =
     let e : n + (w - n) ≡ w = omega arith in
     let e′ : (w - n) + n ≡ w = omega arith in
-    ap (bitOr (x / 2 ^ n)) (ap (λ (m : ℕ). (x * 2 ^ (w - n)) % 2 ^ m) (sym e) ∙ kept n (w - n) x)
+    ap (bitOr (x / 2 ^ n)) (ap (λ (m : ℕ). (x * 2 ^ (w - n)) % 2 ^ m) (sym e) ∙ low-bits n (w - n) x)
     ∙ or-shifted-r (x % 2 ^ n) (w - n) (x / 2 ^ n) (shr-lt (w - n) n (subst (λ (m : ℕ). x < 2 ^ m) (sym e′) hx))
 
 -- the four functions, from their rotations

@@ -1,4 +1,4 @@
--- Bytes cut into blocks, over the size of a block, and a step folded over them. Assumes nothing.
+-- Believed: bytes cut into blocks, over the size of a block, and a step folded over them. Assumes nothing.
 pub mod Laws
 use mathlib.Core.Path.{_≡_}
 use mathlib.Core.List.{List, [], _∷_, foldl}
@@ -20,7 +20,7 @@ module _ (B : ℕ) where
   unfoldable pub wholeBlocks : List ℕ → List (List ℕ)
   wholeBlocks l = firstBlocks (length l / B) l
 
-  -- what is left behind the last whole block
+  -- what is left after the last whole block
   unfoldable pub leftOver : List ℕ → List ℕ
   leftOver l = drop (length l / B * B) l
 

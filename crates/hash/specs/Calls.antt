@@ -1,4 +1,4 @@
--- What each public call answers, for all arguments: its checks in their order, and the work where none fails. An outcome
+-- Believed: what each public call answers, for all arguments: its checks in their order, and the work where none fails. An outcome
 -- predicate is what the call's contract says; Calls/Unique.antt shows that no second outcome meets it. Assumes nothing.
 pub mod Laws
 pub mod Unique
@@ -24,7 +24,7 @@ fed n s = record { number = n; state = s }
 abbrev pub started : ℕ → State → Started
 started n s = record { number = n; state = s }
 
--- start(number)
+-- start(hash_number)
 abbrev pub startChecks : ℕ → List Check
 startChecks n = check (names n) unknownHash ∷ []
 
@@ -58,7 +58,7 @@ finishOf s out = answered (finishChecks s out) (endOf s) out
 abbrev pub FinishOutcome : State → List ℕ → ℕ → List ℕ → Type 0
 FinishOutcome s out r after = _≡_ {A = ℕ × List ℕ} (r, after) (finishOf s out)
 
--- digest(number, message, out)
+-- digest(hash_number, message, out)
 abbrev pub digestChecks : ℕ → List ℕ → List ℕ → List Check
 digestChecks n m out =
     check (names n) unknownHash

@@ -1,4 +1,4 @@
--- The description of a hash: all that tells one from the other (FIPS 180-4, sections 4.1, 4.2, 5.3 and 6). Assumes nothing.
+-- Believed: the description of a hash: all that tells one from the other (FIPS 180-4, sections 4.1, 4.2, 5.3 and 6). Assumes nothing.
 use mathlib.Core.List.{List}
 use Prim.Native.Nat.{ℕ}
 use Rattle.algorithm.specs.declared.hashes.Hash.{Hash}

@@ -1,4 +1,4 @@
--- The hashes that we make, as the layers above see them: shut, with their laws in Digest/Laws.antt. Assumes nothing.
+-- Believed: the hashes that we make, as the layers above see them: shut, with their laws in Digest/Laws.antt. Assumes nothing.
 pub mod Open
 pub mod Laws
 use mathlib.Core.Path.{_≡_}
@@ -11,7 +11,7 @@ use Rattle.octets.specs.Every.{every}
 use Rattle.algorithm.specs.declared.hashes.Hash.{Hash}
 use Rattle.algorithm.specs.Hashes.{blockOf, sizeOf}
 use Rattle.hash.specs.Description.{describe}
-use Rattle.hash.specs.Sha2.{wordSize, blockSize, blocks, digest, digestFrom, zeros, fieldSize}
+use Rattle.hash.specs.Sha2.{wordSize, blockSize, blocks, digest, digestFrom, zeroCount, fieldSize}
 
 -- the padded blocks of a message
 pub blocksOf : Hash → List ℕ → List (List ℕ)
@@ -27,7 +27,7 @@ digestOf h m = digest (describe h) m
 
 -- how many padded blocks a message of n bytes has; this one computes
 unfoldable pub blockCountOf : Hash → ℕ → ℕ
-blockCountOf h n = (n + 1 + zeros (describe h .core) n + fieldSize (describe h .core)) / blockOf h
+blockCountOf h n = (n + 1 + zeroCount (describe h .core) n + fieldSize (describe h .core)) / blockOf h
 
 -- what we know of the description of a hash: its sizes are those of the algorithm crate, a word has four to eight bytes, no more
 -- is kept than eight words have, and the first words are eight that fit

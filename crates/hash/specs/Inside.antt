@@ -1,4 +1,4 @@
--- What the private functions of work in pieces ask and promise. Assumes nothing.
+-- Private: what the private functions of work in pieces ask and promise. Assumes nothing.
 use mathlib.Core.Path.{_≡_}
 use mathlib.Core.Bool.{true}
 use mathlib.Core.List.{List}
@@ -9,8 +9,8 @@ use Rattle.algorithm.specs.Hashes.{blockOf}
 use Rattle.algorithm.specs.Refusals.{mostBytes}
 use Rattle.hash.specs.Description.{Core}
 use Rattle.hash.specs.Blocks.{leftOver}
-use Rattle.hash.specs.Sha2.{zeros, fieldSize}
-use Rattle.hash.specs.State.{heldOf, fit, wordsOf, placed, soundOf}
+use Rattle.hash.specs.Sha2.{zeroCount, fieldSize}
+use Rattle.hash.specs.State.{waitingCount, fit, wordsOf, placed, soundOf}
 use Rattle.hash.specs.declared.state.State.{State}
 
 -- a piece that a state takes
@@ -20,7 +20,7 @@ pub record Takes (s : State) (p : List ℕ) : Type 0 where
 
 -- a piece whose first `room` bytes fill the block of which `at` bytes wait
 pub record Fills (s : State) (at room : ℕ) (p : List ℕ) : Type 0 where
-  pub held : at ≡ heldOf s
+  pub waits : at ≡ waitingCount s
   pub fills : at + room ≡ blockOf (s .hash)
   pub within : room ≤ length p
   pub fits : s .count + length p ≤ mostBytes
@@ -39,6 +39,6 @@ pub record Ends (s : State) : Type 0 where
   pub count : s .count ≤ mostBytes
   pub words : fit (s .hash) (s .words) ≡ true
 
--- where the padding ends behind `at` waiting bytes
+-- where the padding ends after `at` waiting bytes
 abbrev pub paddedEnd : Core → ℕ → ℕ
-paddedEnd C at = at + 1 + zeros C at + fieldSize C
+paddedEnd C at = at + 1 + zeroCount C at + fieldSize C

@@ -1,5 +1,5 @@
--- A run of pieces of a message: the call that is given each of them, as algorithm's runs take it. The laws are in Pieces/Laws.antt.
--- Assumes nothing.
+-- Believed: a run of pieces of a message: the call that is given each of them, as algorithm's runs take it. The laws are in
+-- Pieces/Laws.antt. Assumes nothing.
 pub mod Laws
 use mathlib.Core.List.{List}
 use Prim.Native.Nat.{ℕ}

@@ -1,4 +1,4 @@
--- The rule of the tables: the bits behind the point of the roots of the primes (docs/PROTOCOL.md, "The hashes"). Assumes nothing.
+-- Believed: the rule of the tables: the bits after the point of the roots of the primes (docs/PROTOCOL.md, "The hashes"). Assumes nothing.
 use mathlib.Core.Path.{_≡_}
 use mathlib.Core.Bool.{Bool, true, not, cond, _&&_}
 use mathlib.Core.List.{List, [], _∷_, _++_}
@@ -19,7 +19,7 @@ unfoldable pub primes : ℕ → List ℕ
 primes zero = []
 primes (suc n) = primes n ++ cond (prime n) (n ∷ []) []
 
--- x is the first 64 bits behind the point of the e-th root of p
+-- x is the first 64 bits after the point of the e-th root of p
 pub record RootBits (e p x : ℕ) : Type 0 where
   pub c : ℕ
   pub low : c ^ e ≤ p * 2 ^ (64 * e)

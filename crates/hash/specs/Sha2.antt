@@ -1,4 +1,4 @@
--- SHA-2, once, over the description of a hash (FIPS 180-4, sections 4.1, 5.1, 5.2 and 6). Assumes nothing.
+-- Believed: SHA-2, once, over the description of a hash (FIPS 180-4, sections 4.1, 5.1, 5.2 and 6). Assumes nothing.
 pub mod Laws
 pub mod Padding
 use mathlib.Core.List.{List, [], _∷_, _++_, foldl}
@@ -38,8 +38,8 @@ module _ (C : Core) where
   x ⊞ y = add (C .width) x y
 
   -- 5.1: the fewest zero bytes that make a message of n bytes, byte 80, these zeros and the length field a multiple of a block
-  unfoldable pub zeros : ℕ → ℕ
-  zeros n = (blockSize - (n + 1 + fieldSize) % blockSize) % blockSize
+  unfoldable pub zeroCount : ℕ → ℕ
+  zeroCount n = (blockSize - (n + 1 + fieldSize) % blockSize) % blockSize
 
   -- the length of a message of n bytes, in bits
   unfoldable pub lengthField : ℕ → List ℕ
@@ -47,7 +47,7 @@ module _ (C : Core) where
 
   -- what follows a message of n bytes
   unfoldable pub padding : ℕ → List ℕ
-  padding n = 0x80 ∷ replicate (zeros n) 0 ++ lengthField n
+  padding n = 0x80 ∷ replicate (zeroCount n) 0 ++ lengthField n
 
   -- 5.2: the padded message as a list of blocks
   unfoldable pub blocks : List ℕ → List (List ℕ)

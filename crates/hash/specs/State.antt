@@ -1,4 +1,4 @@
--- Work in pieces: a state, when it is sound, and what bytes and the end make of it (docs/PROTOCOL.md, "Work in pieces").
+-- Believed: work in pieces: a state, when it is sound, and what bytes and the end make of it (docs/PROTOCOL.md, "Work in pieces").
 -- What the calls promise is shut; its laws for the layers above are in State/Laws.antt. Assumes nothing.
 pub mod Open
 pub mod Laws
@@ -20,15 +20,15 @@ use Rattle.hash.specs.Sha2.{step, padding, keep}
 use Rattle.hash.specs.declared.state.State.{State}
 
 -- the places of the waiting array: the bytes of the largest block
-abbrev pub places : ℕ
-places = 128
+abbrev pub largestBlock : ℕ
+largestBlock = 128
 
 -- how many bytes wait for a full block, and which
-abbrev pub heldOf : State → ℕ
-heldOf s = s .count % blockOf (s .hash)
+abbrev pub waitingCount : State → ℕ
+waitingCount s = s .count % blockOf (s .hash)
 
 abbrev pub waitingOf : State → List ℕ
-waitingOf s = take (heldOf s) (s .waiting)
+waitingOf s = take (waitingCount s) (s .waiting)
 
 -- whether each word fits the hash's width
 abbrev pub fit : Hash → List ℕ → Bool
@@ -38,23 +38,23 @@ fit h ws = every (λ x. ltb x (2 ^ (describe h .core .width))) ws
 abbrev pub wordsOf : Hash → List ℕ → List ℕ → List ℕ
 wordsOf h ws l = wordsAfter (blockOf h) (step (describe h .core)) ws l
 
--- bytes with zeros behind them, as they wait
+-- bytes with zeros after them, as they wait
 abbrev pub placed : List ℕ → List ℕ
-placed = zerosTo places
+placed = zerosTo largestBlock
 
 -- the test of a sound state
 pub soundOf : State → Bool
-soundOf s = leb (s .count) mostBytes && (allZero (drop (heldOf s) (s .waiting)) && fit (s .hash) (s .words))
+soundOf s = leb (s .count) mostBytes && (allZero (drop (waitingCount s) (s .waiting)) && fit (s .hash) (s .words))
 
 -- a state as the code can hold one, and sound
 pub record Held (s : State) : Type 0 where
   pub eight : length (s .words) ≡ 8
-  pub wide : length (s .waiting) ≡ places
+  pub waiting-size : length (s .waiting) ≡ largestBlock
   pub sound : soundOf s ≡ true
 
 -- the state that has taken no byte and goes on from these words
 abbrev pub from : Hash → List ℕ → State
-from h ws = record { hash = h; words = ws; count = 0; waiting = replicate places 0 }
+from h ws = record { hash = h; words = ws; count = 0; waiting = replicate largestBlock 0 }
 
 -- a start
 pub freshOf : Hash → State

@@ -1,4 +1,4 @@
--- Words of w bits, as numbers below 2 ^ w (FIPS 180-4, sections 2.2, 3.2 and 4.1). Every operation is over the width.
+-- Believed: words of w bits, as numbers below 2 ^ w (FIPS 180-4, sections 2.2, 3.2 and 4.1). Every operation is over the width.
 -- Assumes nothing.
 use Prim.Native.Nat.{ℕ, _+_, _-_, _*_, _/_, _%_, _^_}
 use lib.Bits.{bitAnd, bitXor}

@@ -8,10 +8,10 @@ ghost use Rattle.octets.specs.Zeros.{zerosTo};
 ghost use Rattle.algorithm.specs.Hashes.{blockOf};
 ghost use Rattle.hash.specs.Description.{describe};
 ghost use Rattle.hash.specs.Sha2.{wordSize, spell};
-ghost use Rattle.hash.specs.State.{places, lastWords};
+ghost use Rattle.hash.specs.State.{largestBlock, lastWords};
 ghost use Rattle.hash.specs.Calls.{FinishOutcome};
 ghost use Rattle.hash.specs.Inside.{paddedEnd, Ends};
-use crate::state::PLACES;
+use crate::state::LARGEST_BLOCK;
 use crate::state::State;
 use algorithm::Hash;
 
@@ -35,12 +35,17 @@ fn padded_end(hash: Hash, at: usize) -> usize
     2 * size
 }
 
-// The waiting bytes with the padding behind them, up to `end`. The length is below 2^64, so its last eight bytes say it all.
-fn last_blocks(waiting: [u8; PLACES], at: usize, end: usize, bits: u64) -> [u8; 2 * PLACES]
-    requires { ⌜ (at ≤ places) × (at + 9 ≤ end) × (end ≤ 256) ⌝ }
+// The waiting bytes with the padding after them, up to `end`. The length is below 2^64, so its last eight bytes say it all.
+fn last_blocks(
+    waiting: [u8; LARGEST_BLOCK],
+    at: usize,
+    end: usize,
+    bits: u64,
+) -> [u8; 2 * LARGEST_BLOCK]
+    requires { ⌜ (at ≤ largestBlock) × (at + 9 ≤ end) × (end ≤ 256) ⌝ }
     ensures { λ r. ⌜ take end r ≡ take at waiting ++ (0x80 ∷ replicate (end - (at + 9)) 0 ++ bytes 8 bits) ⌝ }
 {
-    let mut last = [0u8; 2 * PLACES];
+    let mut last = [0u8; 2 * LARGEST_BLOCK];
     crate::place::put_at(&mut last, 0, &waiting[..at]);
     last[at] = 0x80;
     let field = octets::eight_bytes(bits);
@@ -54,7 +59,7 @@ fn last_words(state: State) -> [u64; 8]
     ensures { λ r. ⌜ r ≡ lastWords state ⌝ }
 {
     let hash = state.hash;
-    let at = crate::state::held(state);
+    let at = crate::state::waiting_count(state);
     let end = padded_end(hash, at);
     let count = state.count;
     let waiting = state.waiting;

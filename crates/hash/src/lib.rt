@@ -19,6 +19,6 @@ pub use pieces::update;
 pub use soundness::sound;
 pub use starting::start;
 pub use state::Fed;
-pub use state::PLACES;
+pub use state::LARGEST_BLOCK;
 pub use state::Started;
 pub use state::State;

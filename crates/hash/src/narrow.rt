@@ -93,7 +93,7 @@ fn mix(w2: u32, w7: u32, w15: u32, w16: u32) -> u32
     add(add(add(small1(w2), w7), small0(w15)), w16)
 }
 
-// The block's sixteen words, with zeros behind them.
+// The block's sixteen words, with zeros after them.
 fn load(b: &[u8]) -> [u32; 64]
     requires { ⌜ 64 ≤ length (now b) ⌝ }
     ensures { λ r. ⌜ take 16 r ≡ sha.words narrow (now (b .entry)) 16 ⌝ }

@@ -2,10 +2,10 @@
 ghost use Rattle.hash.specs.Calls.{DigestOutcome};
 
 // The digest of a message; 2, 4 and 6 as a start, a piece and the end give them.
-pub fn digest(number: u32, message: &[u8], out: &mut [u8]) -> u32
-    ensures { λ r. ⌜ DigestOutcome number (now (message .entry)) (now (out .entry)) r (now (out .exit)) ⌝ }
+pub fn digest(hash_number: u32, message: &[u8], out: &mut [u8]) -> u32
+    ensures { λ r. ⌜ DigestOutcome «hash_number» (now (message .entry)) (now (out .entry)) r (now (out .exit)) ⌝ }
 {
-    let started = crate::starting::start(number);
+    let started = crate::starting::start(hash_number);
     let refusal = started.number;
     if refusal != algorithm::DONE {
         return refusal;

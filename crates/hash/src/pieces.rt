@@ -8,17 +8,17 @@ ghost use lib.ListN.{length, take};
 ghost use lib.Seq.{paste};
 ghost use Rattle.algorithm.specs.Refusals.{mostBytes};
 ghost use Rattle.hash.specs.Blocks.{leftOver};
-ghost use Rattle.hash.specs.State.{places, fit, wordsOf, placed, afterOf};
+ghost use Rattle.hash.specs.State.{largestBlock, fit, wordsOf, placed, afterOf};
 ghost use Rattle.hash.specs.Calls.{UpdateOutcome};
 ghost use Rattle.hash.specs.Inside.{withWaiting, onwardOf, Takes, Fills};
 use crate::state::Fed;
-use crate::state::PLACES;
+use crate::state::LARGEST_BLOCK;
 use crate::state::State;
 use algorithm::Hash;
 
 // The state after a piece that fills no block.
-fn kept(state: State, at: usize, piece: &[u8]) -> State
-    requires { ⌜ at + length (now piece) ≤ places ⌝ }
+fn appended(state: State, at: usize, piece: &[u8]) -> State
+    requires { ⌜ at + length (now piece) ≤ largestBlock ⌝ }
     requires { ⌜ state .count + length (now piece) ≤ mostBytes ⌝ }
     ensures { λ r. ⌜ r ≡ withWaiting state (paste (state .waiting) at (now (piece .entry)) (length (now (piece .entry)))) (length (now (piece .entry))) ⌝ }
 {
@@ -30,13 +30,13 @@ fn kept(state: State, at: usize, piece: &[u8]) -> State
     next
 }
 
-// What is left behind the last whole block, with zeros behind it.
-fn left_over(size: usize, bytes: &[u8]) -> [u8; PLACES]
-    requires { ⌜ (0 < size) × (size ≤ places) ⌝ }
+// What is left after the last whole block, with zeros after it.
+fn left_over(size: usize, bytes: &[u8]) -> [u8; LARGEST_BLOCK]
+    requires { ⌜ (0 < size) × (size ≤ largestBlock) ⌝ }
     ensures { λ r. ⌜ r ≡ placed (leftOver size (now (bytes .entry))) ⌝ }
 {
     let from = bytes.len() - bytes.len() % size;
-    let mut waiting = [0u8; PLACES];
+    let mut waiting = [0u8; LARGEST_BLOCK];
     crate::place::put_at(&mut waiting, 0, &bytes[from..]);
     waiting
 }
@@ -45,11 +45,11 @@ fn left_over(size: usize, bytes: &[u8]) -> [u8; PLACES]
 fn topped_up(
     hash: Hash,
     words: [u64; 8],
-    waiting: [u8; PLACES],
+    waiting: [u8; LARGEST_BLOCK],
     at: usize,
     bytes: &[u8],
 ) -> [u64; 8]
-    requires { ⌜ at + length (now bytes) ≤ places ⌝ }
+    requires { ⌜ at + length (now bytes) ≤ largestBlock ⌝ }
     requires { ⌜ fit hash words ≡ true ⌝ }
     ensures { λ r. ⌜ r ≡ wordsOf hash words (take at waiting ++ now (bytes .entry)) ⌝ }
 {
@@ -95,10 +95,10 @@ fn taken(state: State, piece: &[u8]) -> State
 {
     let hash = state.hash;
     let size = algorithm::block_size(hash);
-    let at = crate::state::held(state);
+    let at = crate::state::waiting_count(state);
     let room = size - at;
     if piece.len() < room {
-        return kept(state, at, piece);
+        return appended(state, at, piece);
     }
     if at == 0 {
         let words = state.words;

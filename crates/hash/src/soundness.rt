@@ -33,7 +33,7 @@ fn words_fit(hash: Hash, words: [u64; 8]) -> bool
     }
 }
 
-// Whether a state is sound: its count within the limit, zeros behind the bytes that wait, and each word within its width.
+// Whether a state is sound: its count within the limit, zeros after the bytes that wait, and each word within its width.
 pub fn sound(state: State) -> bool
     ensures { λ r. ⌜ SoundOutcome state r ⌝ }
 {
@@ -41,7 +41,7 @@ pub fn sound(state: State) -> bool
     if algorithm::MOST_BYTES < count {
         return false;
     }
-    let at = crate::state::held(state);
+    let at = crate::state::waiting_count(state);
     let waiting = state.waiting;
     let clear = octets::all_zero(&waiting[at..]);
     if !clear {

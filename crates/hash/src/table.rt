@@ -46,7 +46,7 @@ pub(crate) fn first_words(hash: Hash) -> [u64; 8]
     }
 }
 
-// The first 64 bits behind the point of the cube roots of the first eighty primes (proofs/Tables.antt).
+// The first 64 bits after the point of the cube roots of the first eighty primes (proofs/Tables.antt).
 const K: [u64; 80] = [
     0x428a2f98d728ae22,
     0x7137449123ef65cd,

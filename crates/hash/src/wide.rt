@@ -92,7 +92,7 @@ fn mix(w2: u64, w7: u64, w15: u64, w16: u64) -> u64
     add(add(add(small1(w2), w7), small0(w15)), w16)
 }
 
-// The block's sixteen words, with zeros behind them.
+// The block's sixteen words, with zeros after them.
 fn load(b: &[u8]) -> [u64; 80]
     requires { ⌜ 128 ≤ length (now b) ⌝ }
     ensures { λ r. ⌜ take 16 r ≡ sha.words wide (now (b .entry)) 16 ⌝ }

@@ -23,7 +23,7 @@ below i d n h k = lt-of-mul-lt-mul-right d (omega arith)
 pub over-none : (o : List ℕ) → over [] o ≡ o
 over-none o = rw take-nil
 
--- one part written behind another, the last one cut
+-- one part written after another, the last one cut
 over-more : (a b o : List ℕ) → length a ≤ length o → take (length a) (over a o) ++ over b (drop (length a) (over a o)) ≡ over (a ++ b) o
 over-more a b o k =
     let rest : List ℕ = drop (length a) o in

@@ -1,4 +1,4 @@
--- What each public call answers, for all arguments: its checks in their order, and the work where none fails. An outcome
+-- Believed: what each public call answers, for all arguments: its checks in their order, and the work where none fails. An outcome
 -- predicate is what the call's contract says; Calls/Unique.antt shows that no second outcome meets it. Assumes nothing.
 pub mod Laws
 pub mod Unique
@@ -12,7 +12,7 @@ use Rattle.algorithm.specs.Refusals.{unknownHash, keyTooLong, messageTooLong, w
 use Rattle.algorithm.specs.Checks.{Check, check, answered}
 use Rattle.hkdf.specs.Hkdf.{extractOf, expandOf}
 
--- extract(number, salt, ikm, out)
+-- extract(hash_number, salt, ikm, out)
 abbrev pub extractChecks : ℕ → List ℕ → List ℕ → List ℕ → List Check
 extractChecks n salt ikm out =
     check (names n) unknownHash
@@ -27,7 +27,7 @@ extractAnswer n salt ikm out = answered (extractChecks n salt ikm out) (extractO
 abbrev pub ExtractOutcome : ℕ → List ℕ → List ℕ → List ℕ → ℕ → List ℕ → Type 0
 ExtractOutcome n salt ikm out r after = _≡_ {A = ℕ × List ℕ} (r, after) (extractAnswer n salt ikm out)
 
--- expand(number, prk, info, out): as many bytes as the output has
+-- expand(hash_number, prk, info, out): as many bytes as the output has
 abbrev pub expandChecks : ℕ → List ℕ → List ℕ → List ℕ → List Check
 expandChecks n prk info out =
     check (names n) unknownHash

@@ -1,4 +1,5 @@
--- HKDF (RFC 5869), over what the HMAC crate promises: extract and expand are shut, with the laws in Hkdf/Laws.antt. Assumes nothing.
+-- Believed: HKDF (RFC 5869), over what the HMAC crate promises: extract and expand are shut, with the laws in Hkdf/Laws.antt. Assumes
+-- nothing.
 pub mod Open
 pub mod Laws
 use mathlib.Core.Bool.{cond}

@@ -1,4 +1,4 @@
--- What the private functions ask and promise. Assumes nothing.
+-- Private: what the private functions ask and promise. Assumes nothing.
 use mathlib.Core.Path.{_≡_}
 use mathlib.Core.Bool.{true}
 use mathlib.Core.List.{List}

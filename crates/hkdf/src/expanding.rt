@@ -15,11 +15,11 @@ use algorithm::Named;
 use hmac::Keyed;
 
 // The start under the key, made once for all blocks.
-fn start(number: u32, prk: &[u8]) -> Keyed
-    requires { ⌜ Keyable number (now prk) ⌝ }
-    ensures { λ r. ⌜ r ≡ freshKeyed (hashOf number) (now (prk .entry)) ⌝ }
+fn start(hash_number: u32, prk: &[u8]) -> Keyed
+    requires { ⌜ Keyable «hash_number» (now prk) ⌝ }
+    ensures { λ r. ⌜ r ≡ freshKeyed (hashOf «hash_number») (now (prk .entry)) ⌝ }
 {
-    let started = hmac::start(number, prk);
+    let started = hmac::start(hash_number, prk);
     started.keyed
 }
 
@@ -34,7 +34,7 @@ fn tag_into(keyed: Keyed, out: &mut [u8])
     hmac::tag(keyed, size, &mut out[..size]);
 }
 
-// One block, the tag of the last one, info and the counter, with zeros behind it.
+// One block, the tag of the last one, info and the counter, with zeros after it.
 fn stretch(keyed: Keyed, last: &[u8], info: &[u8], i: u8) -> [u8; 64]
     requires { ⌜ Stretchable keyed (now last) (now info) ⌝ }
     ensures { λ r. ⌜ r ≡ zerosTo 64 (fullTag (afterKeyed keyed (now (last .entry) ++ (now (info .entry) ++ (i ∷ []))))) ⌝ }
@@ -53,11 +53,11 @@ fn stretch(keyed: Keyed, last: &[u8], info: &[u8], i: u8) -> [u8; 64]
 
 // The output, block after block, the last one cut. Of the block before the first none counts; the counter is raised before each
 // block, since it has no room beyond the last.
-fn fill(number: u32, prk: &[u8], info: &[u8], out: &mut [u8])
-    requires { ⌜ Expandable number (now prk) (now info) (now out) ⌝ }
-    ensures { λ _. ⌜ now (out .exit) ≡ expandOf (hashOf number) (now (prk .entry)) (now (info .entry)) (length (now (out .entry))) ⌝ }
+fn fill(hash_number: u32, prk: &[u8], info: &[u8], out: &mut [u8])
+    requires { ⌜ Expandable «hash_number» (now prk) (now info) (now out) ⌝ }
+    ensures { λ _. ⌜ now (out .exit) ≡ expandOf (hashOf «hash_number») (now (prk .entry)) (now (info .entry)) (length (now (out .entry))) ⌝ }
 {
-    let keyed = start(number, prk);
+    let keyed = start(hash_number, prk);
     let hash = keyed.hash;
     let size = algorithm::digest_size(hash);
     let mut block = [0u8; 64];
@@ -76,10 +76,10 @@ fn fill(number: u32, prk: &[u8], info: &[u8], out: &mut [u8])
 }
 
 // The checks of the lengths in their order, then the work.
-fn expand_for(number: u32, size: usize, prk: &[u8], info: &[u8], out: &mut [u8]) -> u32
-    requires { ⌜ names number ≡ true ⌝ }
-    requires { ⌜ size ≡ sizeOf (hashOf number) ⌝ }
-    ensures { λ r. ⌜ ExpandOutcome number (now (prk .entry)) (now (info .entry)) (now (out .entry)) r (now (out .exit)) ⌝ }
+fn expand_for(hash_number: u32, size: usize, prk: &[u8], info: &[u8], out: &mut [u8]) -> u32
+    requires { ⌜ names «hash_number» ≡ true ⌝ }
+    requires { ⌜ size ≡ sizeOf (hashOf «hash_number») ⌝ }
+    ensures { λ r. ⌜ ExpandOutcome «hash_number» (now (prk .entry)) (now (info .entry)) (now (out .entry)) r (now (out .exit)) ⌝ }
 {
     if algorithm::MOST_BYTES < prk.len() as u64 {
         return algorithm::KEY_TOO_LONG;
@@ -93,19 +93,19 @@ fn expand_for(number: u32, size: usize, prk: &[u8], info: &[u8], out: &mut [u8])
     if algorithm::MOST_DIGESTS * size < out.len() {
         return algorithm::OUTPUT_TOO_LONG;
     }
-    fill(number, prk, info, out);
+    fill(hash_number, prk, info, out);
     algorithm::DONE
 }
 
 // As many bytes as the output has, from a key and info; 2 where the number names no hash, 3 where the key is too long, 7 where it is
 // shorter than a digest, 8 where info is too long, 9 where the output is longer than 255 digests.
-pub fn expand(number: u32, prk: &[u8], info: &[u8], out: &mut [u8]) -> u32
-    ensures { λ r. ⌜ ExpandOutcome number (now (prk .entry)) (now (info .entry)) (now (out .entry)) r (now (out .exit)) ⌝ }
+pub fn expand(hash_number: u32, prk: &[u8], info: &[u8], out: &mut [u8]) -> u32
+    ensures { λ r. ⌜ ExpandOutcome «hash_number» (now (prk .entry)) (now (info .entry)) (now (out .entry)) r (now (out .exit)) ⌝ }
 {
-    let named = algorithm::which(number);
+    let named = algorithm::which(hash_number);
     let Named::Is(hash) = named else {
         return algorithm::UNKNOWN_HASH;
     };
     let size = algorithm::digest_size(hash);
-    expand_for(number, size, prk, info, out)
+    expand_for(hash_number, size, prk, info, out)
 }

@@ -17,10 +17,10 @@ use Rattle.hash.specs.Calls.Laws.{start-accepted, update-accepted}
 use Rattle.hash.specs.declared.state.State.{State}
 use Rattle.hash.specs.declared.state.Started.{Started}
 use Rattle.hash.specs.declared.state.Fed.{Fed}
-use Rattle.hmac.specs.Inside.{Named}
+use Rattle.hmac.specs.Inside.{Naming}
 
 -- the state that start and update handed back
-pub took : {n : ℕ} {h : Hash} → Named n h → (m : List ℕ) → length m ≤ mostBytes → {s : Started} {f : Fed} → s ≡ startOf n → f ≡ updateOf (s .state) m
+pub took : {n : ℕ} {h : Hash} → Naming n h → (m : List ℕ) → length m ≤ mostBytes → {s : Started} {f : Fed} → s ≡ startOf n → f ≡ updateOf (s .state) m
     → f .state ≡ afterOf (freshOf h) m
 took {n} {h} named m l {s} {f} es ef =
     let e : s .state ≡ freshOf h = ap (λ (r : Started). r .state) (es ∙ start-accepted n (named .known)) ∙ ap freshOf (named .is) in

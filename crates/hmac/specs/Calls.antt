@@ -1,4 +1,4 @@
--- What each public call answers, for all arguments: its checks in their order, and the work where none fails. An outcome
+-- Believed: what each public call answers, for all arguments: its checks in their order, and the work where none fails. An outcome
 -- predicate is what the call's contract says; Calls/Unique.antt shows that no second outcome meets it. Assumes nothing.
 pub mod Laws
 pub mod Unique
@@ -31,7 +31,7 @@ started n k = record { number = n; keyed = k }
 abbrev pub fed : ℕ → Keyed → Fed
 fed n k = record { number = n; keyed = k }
 
--- start(number, key)
+-- start(hash_number, key)
 abbrev pub startChecks : ℕ → List ℕ → List Check
 startChecks n key = check (names n) unknownHash ∷ check (leb (length key) mostBytes) keyTooLong ∷ []
 
@@ -91,7 +91,7 @@ fitChecks n m = check (leb (length m) (mostBytes - blockOf (hashOf n))) messageT
 abbrev pub takenChecks : ℕ → List ℕ → List ℕ → List Check
 takenChecks n key m = startChecks n key ++ fitChecks n m
 
--- tag_message(number, key, message, tag_length, out): the checks of a message that is taken, and then of the tag's length
+-- tag_message(hash_number, key, message, tag_length, out): the checks of a message that is taken, and then of the tag's length
 abbrev pub messageChecks : ℕ → List ℕ → List ℕ → ℕ → List ℕ → List Check
 messageChecks n key m t bytes = takenChecks n key m ++ lengthChecks (hashOf n) t bytes
 
@@ -101,7 +101,7 @@ tagMessageAnswer n key m t out = answered (messageChecks n key m t out) (tagOf (
 abbrev pub TagMessageOutcome : ℕ → List ℕ → List ℕ → ℕ → List ℕ → ℕ → List ℕ → Type 0
 TagMessageOutcome n key m t out r after = _≡_ {A = ℕ × List ℕ} (r, after) (tagMessageAnswer n key m t out)
 
--- verify_message(number, key, message, tag_length, presented): the checks of the tag, and then the comparison
+-- verify_message(hash_number, key, message, tag_length, presented): the checks of the tag, and then the comparison
 abbrev pub verifyMessageChecks : ℕ → List ℕ → List ℕ → ℕ → List ℕ → List Check
 verifyMessageChecks n key m t presented = messageChecks n key m t presented ++ compareChecks presented (tagOf (hashOf n) key t m)
 

@@ -1,4 +1,4 @@
--- The block form of a key, and the two pads (FIPS 198-1, section 4; docs/PROTOCOL.md, "Keys and tags"). Assumes nothing.
+-- Believed: the block form of a key, and the two pads (FIPS 198-1, section 4; docs/PROTOCOL.md, "Keys and tags"). Assumes nothing.
 pub mod Laws
 use mathlib.Core.Path.{_≡_}
 use mathlib.Core.Bool.{cond}
@@ -16,15 +16,15 @@ use Rattle.hash.specs.Digest.{digestOf}
 unfoldable pub formOf : Hash → List ℕ → List ℕ
 formOf h k = zerosTo (blockOf h) (cond (leb (length k) (blockOf h)) k (digestOf h k))
 
--- each byte with x
+-- each byte XOR x
 abbrev pub masked : ℕ → List ℕ → List ℕ
 masked x l = map (λ b. bitXor b x) l
 
 -- two keys that differ only in zero bytes at the end
 pub record SameButZeros (a b : List ℕ) : Type 0 where
-  pub behind-a : ℕ
-  pub behind-b : ℕ
-  pub same : a ++ replicate behind-a 0 ≡ b ++ replicate behind-b 0
+  pub after-a : ℕ
+  pub after-b : ℕ
+  pub same : a ++ replicate after-a 0 ≡ b ++ replicate after-b 0
 
 -- the inner and the outer pad
 unfoldable pub innerPad : Hash → List ℕ → List ℕ

@@ -1,4 +1,4 @@
--- HMAC (FIPS 198-1, section 4) and the truncated tag: shut, with the laws in Hmac/Laws.antt. Assumes nothing.
+-- Believed: HMAC (FIPS 198-1, section 4) and the truncated tag: shut, with the laws in Hmac/Laws.antt. Assumes nothing.
 pub mod Open
 pub mod Laws
 use mathlib.Core.List.{List, _++_}

@@ -1,4 +1,4 @@
--- What the private functions ask and promise. Assumes nothing.
+-- Private: what the private functions ask and promise. Assumes nothing.
 use mathlib.Core.Path.{_≡_}
 use mathlib.Core.Bool.{true}
 use mathlib.Core.List.{List}
@@ -12,7 +12,7 @@ use Rattle.hmac.specs.Keyed.{Message}
 use Rattle.hmac.specs.declared.keyed.Fed.{Fed}
 
 -- a number that names this hash
-pub record Named (n : ℕ) (h : Hash) : Type 0 where
+pub record Naming (n : ℕ) (h : Hash) : Type 0 where
   pub known : names n ≡ true
   pub is : hashOf n ≡ h
 

@@ -1,4 +1,4 @@
--- Work in pieces under a key: a keyed state, when it is sound, and what bytes and the end make of it (docs/PROTOCOL.md, "Keys and
+-- Believed: work in pieces under a key: a keyed state, when it is sound, and what bytes and the end make of it (docs/PROTOCOL.md, "Keys and
 -- tags"). What the calls promise is shut; its laws for the layers above are in Keyed/Laws.antt. Assumes nothing.
 pub mod Open
 pub mod Laws
@@ -13,7 +13,7 @@ use Rattle.algorithm.specs.declared.hashes.Hash.the-variants.{Sha256}
 use Rattle.algorithm.specs.Hashes.{names, hashOf, blockOf}
 use Rattle.algorithm.specs.Refusals.{mostBytes}
 use Rattle.hash.specs.declared.state.State.{State}
-use Rattle.hash.specs.State.{places, soundOf, freshOf, afterOf, endOf}
+use Rattle.hash.specs.State.{largestBlock, soundOf, freshOf, afterOf, endOf}
 use Rattle.hmac.specs.Form.{innerPad, outerPad}
 use Rattle.hmac.specs.Hmac.{hmacOf}
 use Rattle.hmac.specs.declared.keyed.Keyed.{Keyed}
@@ -23,7 +23,7 @@ abbrev pub innerOf : Keyed → State
 innerOf k = record { hash = k .hash; words = k .words; count = k .count; waiting = k .waiting }
 
 abbrev pub outerOf : Keyed → State
-outerOf k = record { hash = k .hash; words = k .outer; count = blockOf (k .hash); waiting = replicate places 0 }
+outerOf k = record { hash = k .hash; words = k .outer; count = blockOf (k .hash); waiting = replicate largestBlock 0 }
 
 -- an inner state, with outer words
 abbrev pub joined : State → List ℕ → Keyed
@@ -36,7 +36,7 @@ soundKeyed k = soundOf (innerOf k) && (soundOf (outerOf k) && leb (blockOf (k .h
 -- a keyed state as the code can hold one, and sound
 pub record HeldKeyed (k : Keyed) : Type 0 where
   pub eight : length (k .words) ≡ 8
-  pub wide : length (k .waiting) ≡ places
+  pub waiting-size : length (k .waiting) ≡ largestBlock
   pub outer-eight : length (k .outer) ≡ 8
   pub sound : soundKeyed k ≡ true
 
@@ -46,7 +46,7 @@ freshKeyed h key = joined (afterOf (freshOf h) (innerPad h key)) (afterOf (fresh
 
 -- what a refused start hands back: zeros that name hash 1
 pub zeroKeyed : Keyed
-zeroKeyed = record { hash = Sha256; words = replicate 8 0; count = 0; waiting = replicate places 0; outer = replicate 8 0 }
+zeroKeyed = record { hash = Sha256; words = replicate 8 0; count = 0; waiting = replicate largestBlock 0; outer = replicate 8 0 }
 
 -- the keyed state after bytes more
 pub afterKeyed : Keyed → List ℕ → Keyed

@@ -1,4 +1,4 @@
--- A run of pieces under a key: the call that is given each of them, as algorithm's runs take it, and the keyed state that updates
+-- Believed: a run of pieces under a key: the call that is given each of them, as algorithm's runs take it, and the keyed state that updates
 -- lead to one after the other. The laws are in Pieces/Laws.antt. Assumes nothing.
 pub mod Laws
 use mathlib.Core.Path.{_≡_}

@@ -20,7 +20,7 @@ fn end_into(state: State, out: &mut [u8])
     hash::finish(state, &mut out[..size]);
 }
 
-// With zeros behind it.
+// With zeros after it.
 pub(crate) fn ended(state: State) -> [u8; 64]
     requires { ⌜ soundOf state ≡ true ⌝ }
     ensures { λ r. ⌜ r ≡ zerosTo 64 (endOf state) ⌝ }

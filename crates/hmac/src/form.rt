@@ -8,28 +8,28 @@ ghost use Rattle.hash.specs.Digest.{digestOf};
 ghost use Rattle.hash.specs.State.{freshOf, afterOf};
 ghost use Rattle.octets.specs.Zeros.{zerosTo};
 ghost use Rattle.hmac.specs.Form.{formOf, masked};
-ghost use Rattle.hmac.specs.Inside.{Named};
+ghost use Rattle.hmac.specs.Inside.{Naming};
 use algorithm::Hash;
-use hash::PLACES;
+use hash::LARGEST_BLOCK;
 use hash::State;
 
-// The bytes, and zeros behind them.
-fn copied(bytes: &[u8]) -> [u8; PLACES]
+// The bytes, and zeros after them.
+fn copied(bytes: &[u8]) -> [u8; LARGEST_BLOCK]
     requires { ⌜ length (now bytes) ≤ 128 ⌝ }
     ensures { λ r. ⌜ r ≡ zerosTo 128 (now (bytes .entry)) ⌝ }
 {
-    let mut out = [0u8; PLACES];
+    let mut out = [0u8; LARGEST_BLOCK];
     octets::copy_prefix(bytes, &mut out);
     out
 }
 
-// The digest of a key, and zeros behind it.
-fn digested(number: u32, hash: Hash, key: &[u8]) -> [u8; PLACES]
-    requires { ⌜ Named number hash ⌝ }
+// The digest of a key, and zeros after it.
+fn digested(hash_number: u32, hash: Hash, key: &[u8]) -> [u8; LARGEST_BLOCK]
+    requires { ⌜ Naming «hash_number» hash ⌝ }
     requires { ⌜ length (now key) ≤ mostBytes ⌝ }
     ensures { λ r. ⌜ r ≡ zerosTo 128 (digestOf hash (now (key .entry))) ⌝ }
 {
-    let started = hash::start(number);
+    let started = hash::start(hash_number);
     let fresh = started.state;
     let fed = hash::update(fresh, key);
     let last = fed.state;
@@ -37,9 +37,9 @@ fn digested(number: u32, hash: Hash, key: &[u8]) -> [u8; PLACES]
     copied(&digest)
 }
 
-// The block form of a key, and zeros behind it. A key of exactly a block is used as it is.
-pub(crate) fn block_form(number: u32, hash: Hash, key: &[u8]) -> [u8; PLACES]
-    requires { ⌜ Named number hash ⌝ }
+// The block form of a key, and zeros after it. A key of exactly a block is used as it is.
+pub(crate) fn block_form(hash_number: u32, hash: Hash, key: &[u8]) -> [u8; LARGEST_BLOCK]
+    requires { ⌜ Naming «hash_number» hash ⌝ }
     requires { ⌜ length (now key) ≤ mostBytes ⌝ }
     ensures { λ r. ⌜ r ≡ zerosTo 128 (formOf hash (now (key .entry))) ⌝ }
 {
@@ -47,28 +47,28 @@ pub(crate) fn block_form(number: u32, hash: Hash, key: &[u8]) -> [u8; PLACES]
     if key.len() <= size {
         return copied(key);
     }
-    digested(number, hash, key)
+    digested(hash_number, hash, key)
 }
 
-// Each byte with x.
-fn mask(form: [u8; PLACES], x: u8) -> [u8; PLACES]
+// Each byte XOR x.
+fn mask(form: [u8; LARGEST_BLOCK], x: u8) -> [u8; LARGEST_BLOCK]
     ensures { λ r. ⌜ r ≡ masked x form ⌝ }
 {
     let mut out = form;
-    for i in 0..PLACES {
+    for i in 0..LARGEST_BLOCK {
         out[i] = out[i] ^ x;
     }
     out
 }
 
 // The hash after the pad of a form.
-pub(crate) fn after_pad(number: u32, hash: Hash, form: [u8; PLACES], x: u8) -> State
-    requires { ⌜ Named number hash ⌝ }
+pub(crate) fn after_pad(hash_number: u32, hash: Hash, form: [u8; LARGEST_BLOCK], x: u8) -> State
+    requires { ⌜ Naming «hash_number» hash ⌝ }
     ensures { λ r. ⌜ r ≡ afterOf (freshOf hash) (take (blockOf hash) (masked x form)) ⌝ }
 {
     let pad = mask(form, x);
     let size = algorithm::block_size(hash);
-    let started = hash::start(number);
+    let started = hash::start(hash_number);
     let fresh = started.state;
     let fed = hash::update(fresh, &pad[..size]);
     fed.state

@@ -2,7 +2,7 @@
 ghost use mathlib.Core.Path.{_≡_};
 ghost use Rattle.hmac.specs.Keyed.{innerOf, outerOf, joined};
 use algorithm::Hash;
-use hash::PLACES;
+use hash::LARGEST_BLOCK;
 use hash::State;
 
 // The hash that it was made for; the inner hash at work, of which the first block counts; and the outer words, which have taken
@@ -11,7 +11,7 @@ pub struct Keyed {
     pub hash: Hash,
     pub words: [u64; 8],
     pub count: u64,
-    pub waiting: [u8; PLACES],
+    pub waiting: [u8; LARGEST_BLOCK],
     pub outer: [u64; 8],
 }
 
@@ -48,7 +48,7 @@ pub(crate) fn outer(keyed: Keyed) -> State
 {
     let hash = keyed.hash;
     let words = keyed.outer;
-    let waiting = [0u8; PLACES];
+    let waiting = [0u8; LARGEST_BLOCK];
     let size = algorithm::block_size(hash);
     State {
         hash,

@@ -4,10 +4,10 @@ ghost use Rattle.hmac.specs.Inside.{Taken};
 use crate::keyed::Fed;
 
 // The keyed state that has taken a message; 2 and 3 as a start gives them, 4 as a piece.
-fn taken(number: u32, key: &[u8], message: &[u8]) -> Fed
-    ensures { λ r. ⌜ Taken number (now (key .entry)) (now (message .entry)) r ⌝ }
+fn taken(hash_number: u32, key: &[u8], message: &[u8]) -> Fed
+    ensures { λ r. ⌜ Taken «hash_number» (now (key .entry)) (now (message .entry)) r ⌝ }
 {
-    let started = crate::starting::start(number, key);
+    let started = crate::starting::start(hash_number, key);
     let keyed = started.keyed;
     let refusal = started.number;
     if refusal != algorithm::DONE {
@@ -21,15 +21,15 @@ fn taken(number: u32, key: &[u8], message: &[u8]) -> Fed
 
 // The tag of a message; 2, 3 and 4 as above, 5 and 6 as the tag of a keyed state.
 pub fn tag_message(
-    number: u32,
+    hash_number: u32,
     key: &[u8],
     message: &[u8],
     tag_length: usize,
     out: &mut [u8],
 ) -> u32
-    ensures { λ r. ⌜ TagMessageOutcome number (now (key .entry)) (now (message .entry)) «tag_length» (now (out .entry)) r (now (out .exit)) ⌝ }
+    ensures { λ r. ⌜ TagMessageOutcome «hash_number» (now (key .entry)) (now (message .entry)) «tag_length» (now (out .entry)) r (now (out .exit)) ⌝ }
 {
-    let fed = taken(number, key, message);
+    let fed = taken(hash_number, key, message);
     let refusal = fed.number;
     if refusal != algorithm::DONE {
         return refusal;
@@ -40,15 +40,15 @@ pub fn tag_message(
 
 // Whether the presented bytes are the message's tag of this length; 2, 3, 4, 5 and 6 as for the tag, then 0 or 1.
 pub fn verify_message(
-    number: u32,
+    hash_number: u32,
     key: &[u8],
     message: &[u8],
     tag_length: usize,
     presented: &[u8],
 ) -> u32
-    ensures { λ r. ⌜ VerifyMessageOutcome number (now (key .entry)) (now (message .entry)) «tag_length» (now (presented .entry)) r ⌝ }
+    ensures { λ r. ⌜ VerifyMessageOutcome «hash_number» (now (key .entry)) (now (message .entry)) «tag_length» (now (presented .entry)) r ⌝ }
 {
-    let fed = taken(number, key, message);
+    let fed = taken(hash_number, key, message);
     let refusal = fed.number;
     if refusal != algorithm::DONE {
         return refusal;

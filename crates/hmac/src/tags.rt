@@ -8,7 +8,7 @@ ghost use Rattle.hmac.specs.Calls.{allowed, tagChecks, TagOutcome, Verif
 use crate::keyed::Keyed;
 use algorithm::Hash;
 
-// The full tag of a sound keyed state, and zeros behind it.
+// The full tag of a sound keyed state, and zeros after it.
 fn full(keyed: Keyed) -> [u8; 64]
     requires { ⌜ soundKeyed keyed ≡ true ⌝ }
     ensures { λ r. ⌜ r ≡ zerosTo 64 (fullTag keyed) ⌝ }

@@ -1,4 +1,4 @@
--- The judgement on a report: reading's number, the one that refuses the PRK, or the tag's verdict. Assumes nothing.
+-- Private: the judgement on a report: reading's number, the one that refuses the PRK, or the tag's verdict. Assumes nothing.
 use mathlib.Core.Bool.{cond}
 use mathlib.Core.List.{List}
 use Prim.Native.Nat.{ℕ, _/_}
@@ -7,7 +7,7 @@ use lib.ListN.{length, take, drop, replicate}
 use Rattle.report.specs.Calls.{checkAnswer, fingerprintAnswer, keysAnswer}
 use Rattle.report.specs.declared.reading.Reading.{Reading}
 
--- of two keys that stand one behind the other, the tag key is the first half and the fingerprint key the second
+-- of two keys that stand one after the other, the tag key is the first half and the fingerprint key the second
 abbrev pub half : List ℕ → ℕ
 half keys = length keys / 2
 

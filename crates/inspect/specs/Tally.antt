@@ -1,4 +1,4 @@
--- The totals. Assumes nothing.
+-- Private: the totals. Assumes nothing.
 use mathlib.Core.Bool.{cond}
 use mathlib.Core.Path.{_≡_}
 use Prim.Native.Nat.{ℕ, _+_, _*_, _≤_}
@@ -8,7 +8,7 @@ use Rattle.octets.specs.declared.sums.Sum.{Sum}
 use Rattle.report.specs.Layout.{largestReport}
 use Rattle.inspect.specs.declared.tally.Tally.{Tally}
 
--- each report is counted once, and the place is at most that behind so many of the largest
+-- each report is counted once, and the place is at most that after so many of the largest
 pub record Adds (t : Tally) : Type 0 where
   pub counts : t .matching + t .differing + t .refused ≡ t .reports
   pub place : t .at ≤ largestReport * t .reports

@@ -25,7 +25,7 @@ pub enum Found {
     Failed(i32),
 }
 
-fn wide(byte: u8) -> u32 {
+fn as_number(byte: u8) -> u32 {
     byte as u32
 }
 
@@ -33,7 +33,10 @@ fn wide(byte: u8) -> u32 {
 fn number(space: &[u8]) -> u32
     requires { ⌜ 4 ≤ length (now space) ⌝ }
 {
-    (wide(space[0]) << 24) | (wide(space[1]) << 16) | (wide(space[2]) << 8) | wide(space[3])
+    (as_number(space[0]) << 24)
+        | (as_number(space[1]) << 16)
+        | (as_number(space[2]) << 8)
+        | as_number(space[3])
 }
 
 // The rest of a report that has so many bytes.

@@ -10,7 +10,7 @@ pub struct Judged {
     pub fingerprint: [u8; 32],
 }
 
-// The judgement under the two keys, the tag key and behind it the fingerprint key, which are equally long.
+// The judgement under the two keys, the tag key and after it the fingerprint key, which are equally long.
 fn judge_under(report: &[u8], keys: &[u8]) -> Judged
     ensures { λ r. ⌜ r .number ≡ verdictUnder (now (report .entry)) (now (keys .entry)) ⌝ }
     ensures { λ r. ⌜ r .fingerprint ≡ fingerprintUnder (now (report .entry)) (now (keys .entry)) ⌝ }

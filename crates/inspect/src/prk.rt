@@ -6,7 +6,7 @@ use crate::say;
 // The most bytes of a PRK here. The space has one more, so that a longer file shows.
 const MOST: usize = 4095;
 
-// The line on the PRK's length, with a warning where it is no digest's: a line end behind the bytes makes other keys.
+// The line on the PRK's length, with a warning where it is no digest's: a line end after the bytes makes other keys.
 fn say_length(n: usize) {
     say::sentence(b"PRK of ", n as u64, b" bytes");
     if n != 32 && n != 64 {

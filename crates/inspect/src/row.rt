@@ -96,7 +96,7 @@ fn put_strokes(line: &mut [u8; LINE]) {
     line[MEMORY - 1] = b'-';
 }
 
-fn wide(byte: u8) -> u64
+fn as_number(byte: u8) -> u64
     ensures { λ r. ⌜ r < 256 ⌝ }
 {
     byte as u64
@@ -106,7 +106,7 @@ fn wide(byte: u8) -> u64
 fn put_byte(line: &mut [u8; LINE], at: usize, byte: u8)
     requires { ⌜ at < 259 ⌝ }
 {
-    let n = wide(byte);
+    let n = as_number(byte);
     line[at] = glyph(n / 16);
     line[at + 1] = glyph(n % 16);
 }

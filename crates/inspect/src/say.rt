@@ -10,8 +10,8 @@ pub(crate) fn number(n: u64) {
 }
 
 // A number between words.
-pub(crate) fn sentence(before: &[u8], n: u64, behind: &[u8]) {
+pub(crate) fn sentence(before: &[u8], n: u64, after: &[u8]) {
     text(before);
     number(n);
-    text(behind);
+    text(after);
 }

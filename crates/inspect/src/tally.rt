@@ -9,7 +9,7 @@ use octets::Sum;
 // More reports than any capture has; it keeps every count below 2^64.
 pub(crate) const MOST_REPORTS: u64 = 4503599627370496;
 
-// The place behind the last report, the reports, how many of them have which verdict, and the live bytes of those whose tag matches.
+// The place after the last report, the reports, how many of them have which verdict, and the live bytes of those whose tag matches.
 pub struct Tally {
     pub at: u64,
     pub reports: u64,

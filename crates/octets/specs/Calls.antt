@@ -1,5 +1,5 @@
--- What each public function promises: the outcome predicate that its contract cites. Calls/Unique.antt shows that no second outcome
--- meets it. Assumes nothing.
+-- Believed: what each public function promises: the outcome predicate that its contract cites. Calls/Unique.antt shows that no second
+-- outcome meets it. Assumes nothing.
 pub mod Unique
 use mathlib.Core.Path.{_≡_}
 use mathlib.Core.Bool.{Bool}
@@ -28,6 +28,6 @@ SameOutcome a b r = Tells r a b
 abbrev pub EightBytesOutcome : ℕ → List ℕ → Type 0
 EightBytesOutcome x r = r ≡ bytes 8 x
 
--- plus(sum, number)
+-- plus(sum, summand)
 abbrev pub PlusOutcome : Sum → ℕ → Sum → Type 0
 PlusOutcome sum x r = r ≡ plusOf sum x

@@ -1,4 +1,4 @@
--- Copying: what a slice holds once the beginning of another was written over its own. Assumes nothing.
+-- Believed: copying: what a slice holds once the beginning of another was written over its own. Assumes nothing.
 pub mod Laws
 use mathlib.Core.List.{List, _++_}
 use Prim.Native.Nat.{ℕ}

@@ -1,4 +1,4 @@
--- A test of every element of a list. Assumes nothing.
+-- Believed: a test of every element of a list. Assumes nothing.
 pub mod Laws
 use mathlib.Core.Bool.{Bool, true, _&&_}
 use mathlib.Core.List.{List, [], _∷_}

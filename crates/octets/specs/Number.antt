@@ -1,4 +1,4 @@
--- Numbers as bytes, big-endian. Assumes nothing.
+-- Believed: numbers as bytes, big-endian. Assumes nothing.
 pub mod Laws
 use mathlib.Core.List.{List, [], _∷_, _++_}
 use Prim.Native.Nat.{ℕ, zero, suc, _+_, _*_, _/_, _%_}

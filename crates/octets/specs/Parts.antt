@@ -1,4 +1,4 @@
--- Laws of parts of a list: read from a place, or lent from a place onward, written over and given back. Assumes nothing.
+-- Proved: laws of parts of a list: read from a place, or lent from a place onward, written over and given back. Assumes nothing.
 use mathlib.Core.Path.{_≡_, sym, ap, _∙_}
 use mathlib.Core.List.{List, [], _∷_, _++_, append-assoc, append-nil}
 use Prim.Native.Nat.{ℕ, zero, suc, _+_, _-_, _≤_}

@@ -1,4 +1,4 @@
--- Comparing: what the answer tells of two lists. Assumes nothing.
+-- Believed: comparing: what the answer tells of two lists. Assumes nothing.
 pub mod Laws
 use mathlib.Core.Path.{_≡_}
 use mathlib.Core.Bool.{Bool, true, false, _&&_}

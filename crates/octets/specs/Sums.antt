@@ -1,4 +1,4 @@
--- A sum of numbers that knows whether it passed 2^64 - 1. Assumes nothing.
+-- Believed: a sum of numbers that knows whether it passed 2^64 - 1. Assumes nothing.
 pub mod Laws
 use mathlib.Core.Path.{_≡_}
 use mathlib.Core.Bool.{Bool, true, false, cond, _||_}

@@ -11,10 +11,10 @@ pub struct Sum {
 }
 
 // The sum with one number more. Once it is over it stays so.
-pub fn plus(sum: Sum, number: u64) -> Sum
-    ensures { λ r. ⌜ PlusOutcome sum number r ⌝ }
+pub fn plus(sum: Sum, summand: u64) -> Sum
+    ensures { λ r. ⌜ PlusOutcome sum summand r ⌝ }
 {
-    if sum.over || LARGEST_TOTAL - sum.total < number {
+    if sum.over || LARGEST_TOTAL - sum.total < summand {
         return Sum {
             over: true,
             total: 0,
@@ -22,6 +22,6 @@ pub fn plus(sum: Sum, number: u64) -> Sum
     }
     Sum {
         over: false,
-        total: sum.total + number,
+        total: sum.total + summand,
     }
 }

@@ -43,7 +43,7 @@ module _ (s : List ℕ) {r : Checked} (e : r ≡ checkedOf s) where
         live = ap (λ (x : Checked). x .live) e ∙ done-work (readChecks s) (liveOf (sitesIn s .1)) 0 n;
       }
 
--- the hash of such a report is made, and its tag stands behind 45 bytes
+-- the hash of such a report is made, and its tag stands after 45 bytes
 module _ (s : List ℕ) {r : Checked} (p : Read s r) where
   pub made : names (numberAt s 5 1) ≡ true
   made = report-hash (numberAt s 5 1) (p .passes .known) .0

@@ -41,9 +41,9 @@ unfolding readSites
 none-left b at h n = rw (drop-of-length-le b {i = at} h)
 
 module _ (b : List ℕ) (at : ℕ) (h : at < length b) where
-  -- so many bytes behind the length of a label
-  behind : (k j : ℕ) → suc at + k ≡ j → drop k (drop (suc at) b) ≡ drop j b
-  behind k j e = drop-drop k (suc at) b ∙ ap (λ (i : ℕ). drop i b) e
+  -- so many bytes after the length of a label
+  after : (k j : ℕ) → suc at + k ≡ j → drop k (drop (suc at) b) ≡ drop j b
+  after k j e = drop-drop k (suc at) b ∙ ap (λ (i : ℕ). drop i b) e
 
   -- the definition at a place, in the terms of the body
   here : (n : ℕ) → readSites (suc n) (drop at b) ≡
@@ -57,9 +57,9 @@ module _ (b : List ℕ) (at : ℕ) (h : at < length b) where
       let k : ℕ = getD b at 0 in
       let room : length (drop (suc at) b) ≡ length b - (at + 1) = length-drop (suc at) b ∙ omega arith in
       let label : drop (suc at) b ≡ drop (at + 1) b = ap (λ (i : ℕ). drop i b) (sym (add-one at)) in
-      let live : drop k (drop (suc at) b) ≡ drop (at + k + 1) b = behind k (at + k + 1) (omega arith) in
-      let blocks : drop (k + 8) (drop (suc at) b) ≡ drop (at + k + 9) b = behind (k + 8) (at + k + 9) (omega arith) in
-      let rest : drop (k + 12) (drop (suc at) b) ≡ drop (at + k + 13) b = behind (k + 12) (at + k + 13) (omega arith) in
+      let live : drop k (drop (suc at) b) ≡ drop (at + k + 1) b = after k (at + k + 1) (omega arith) in
+      let blocks : drop (k + 8) (drop (suc at) b) ≡ drop (at + k + 9) b = after (k + 8) (at + k + 9) (omega arith) in
+      let rest : drop (k + 12) (drop (suc at) b) ≡ drop (at + k + 13) b = after (k + 12) (at + k + 13) (omega arith) in
       ap (readSites (suc n)) (drop-cons b at 0 h)
       ∙ (λ i.
       cond (leb 1 k && leb k 48)
@@ -173,7 +173,7 @@ module _ (b : List ℕ) (sites at : ℕ) (sum : Sum) (i : ℕ) (f : Far b sites 
           sums = plus-is sum (r .live) (f .t) (f .sums);
         }
 
-  -- behind the last site
+  -- after the last site
   module _ (z : sites ≤ i) where
     over : sites - i ≡ 0
     over = omega arith

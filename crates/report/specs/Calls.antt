@@ -1,4 +1,4 @@
--- What each public call answers, for all arguments: its checks in their order, and the work where none fails. An outcome
+-- Believed: what each public call answers, for all arguments: its checks in their order, and the work where none fails. An outcome
 -- predicate is what the call's contract says; Calls/Unique.antt shows that no second outcome meets it. Assumes nothing.
 pub mod Laws
 pub mod Unique
@@ -67,7 +67,7 @@ readIntoAnswer s fields = answered (readIntoChecks s fields) (numbersOf (fieldsO
 abbrev pub ReadIntoOutcome : List ℕ → List ℕ → ℕ → List ℕ → Type 0
 ReadIntoOutcome s fields r after = _≡_ {A = ℕ × List ℕ} (r, after) (readIntoAnswer s fields)
 
--- the site at a place, and where it starts behind the first one
+-- the site at a place, and where it starts after the first one
 abbrev pub noSite : Site
 noSite = record { label = []; live = 0; blocks = 0 }
 
@@ -154,7 +154,7 @@ fingerprintAnswer s key out = answered (fingerprintChecks s key out) (fingerprin
 abbrev pub FingerprintOutcome : List ℕ → List ℕ → List ℕ → ℕ → List ℕ → Type 0
 FingerprintOutcome s key out r after = _≡_ {A = ℕ × List ℕ} (r, after) (fingerprintAnswer s key out)
 
--- keys(number, prk, tenant, machine, out)
+-- keys(hash_number, prk, tenant, machine, out)
 abbrev pub keysChecks : ℕ → List ℕ → List ℕ → List Check
 keysChecks n prk out =
     check (namesHash n) unknownHash

@@ -1,4 +1,4 @@
--- The fingerprint of a report: its message, cut from the report by one gap, and its tag of 32 bytes. Assumes nothing.
+-- Believed: the fingerprint of a report: its message, cut from the report by one gap, and its tag of 32 bytes. Assumes nothing.
 pub mod Laws
 use mathlib.Core.List.{List, _++_}
 use Prim.Native.Nat.{ℕ}
@@ -13,7 +13,7 @@ gapStart = 26
 abbrev pub gapEnd : ℕ
 gapEnd = 34
 
--- all bytes behind the count and before the tag, but those of the gap
+-- all bytes after the count and before the tag, but those of the gap
 unfoldable pub messageOf : List ℕ → List ℕ
 messageOf s = slice 4 gapStart s ++ slice gapEnd (tagStart s) s
 

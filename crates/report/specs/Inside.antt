@@ -1,4 +1,4 @@
--- What the private functions ask and promise. Assumes nothing.
+-- Private: what the private functions ask and promise. Assumes nothing.
 use mathlib.Core.Path.{_≡_}
 use mathlib.Core.Bool.{Bool, true, cond}
 use mathlib.Core.List.{List, _++_}
@@ -31,13 +31,13 @@ siteHere s at = record {
   blocks = numberAt s (at + getD s at 0 + 9) 4;
 }
 
--- where a site of some bytes stands: it starts behind those before it, and the next one behind it
+-- where a site of some bytes stands: it starts after those before it, and the next one after it
 pub record Stands (l : List ℕ) (xs : List Site) (place : ℕ) : Type 0 where
   pub here : siteOf xs place ≡ siteHere l (before xs place)
   pub room : before xs place + getD l (before xs place) 0 + 13 ≤ length l
   pub next : before xs (suc place) ≡ before xs place + getD l (before xs place) 0 + 13
 
--- such a site fits, and the next one starts behind it
+-- such a site fits, and the next one starts after it
 pub record Fits (body : List ℕ) (at : ℕ) : Type 0 where
   pub room : at + getD body at 0 + 13 ≤ length body
   pub reads : (n : ℕ) → readSites (suc n) (drop at body) ≡ withSite (siteHere body at) (readSites n (drop (at + getD body at 0 + 13) body))

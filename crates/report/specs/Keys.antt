@@ -1,4 +1,4 @@
--- The two keys of a machine (docs/PROTOCOL.md, "Reports"). Assumes nothing.
+-- Believed: the two keys of a machine (docs/PROTOCOL.md, "Reports"). Assumes nothing.
 use mathlib.Core.List.{List, _++_}
 use Prim.Native.Nat.{ℕ}
 use Rattle.octets.specs.Number.{bytes}

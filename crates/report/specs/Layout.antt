@@ -1,4 +1,5 @@
--- The layout of a report (docs/PROTOCOL.md, "Reports"): its fields, the bytes that they take before the tag, and sizes. Assumes nothing.
+-- Believed: the layout of a report (docs/PROTOCOL.md, "Reports"): its fields, the bytes that they take before the tag, and sizes.
+-- Assumes nothing.
 use mathlib.Core.Path.{_≡_}
 use mathlib.Core.Bool.{cond}
 use mathlib.Core.List.{List, [], _∷_, _++_}
@@ -28,7 +29,7 @@ pub record Fields : Type 0 where
 unfoldable pub siteBytes : Site → List ℕ
 siteBytes x = bytes 1 (length (x .label)) ++ (x .label ++ (bytes 8 (x .live) ++ bytes 4 (x .blocks)))
 
--- sites, one behind the other
+-- sites, one after the other
 unfoldable pub sitesBytes : List Site → List ℕ
 sitesBytes [] = []
 sitesBytes (x ∷ xs) = siteBytes x ++ sitesBytes xs

@@ -1,5 +1,5 @@
--- Reading a report (docs/PROTOCOL.md, "Reports"): one total function from bytes to the number and the fields. It is open, so that a
--- report's reading computes. Assumes nothing.
+-- Believed: reading a report (docs/PROTOCOL.md, "Reports"): one total function from bytes to the number and the fields. It is open, so
+-- that a report's reading computes. Assumes nothing.
 pub mod Laws
 use mathlib.Core.Path.{_≡_}
 use mathlib.Core.Bool.{Bool, true, cond, _&&_, _||_}
@@ -49,11 +49,16 @@ firstSite size l = record { label = take size l; live = numberAt l size 8; block
 abbrev pub withSite : Site → ℕ × List Site → ℕ × List Site
 withSite x w = (w .0, x ∷ w .1)
 
--- n sites that are to fill some bytes: the number that refuses them, and the sites
+-- n sites that are to fill the bytes before the tag: the number that refuses them, and the sites. Above each case stands what the
+-- rules say of it (docs/PROTOCOL.md, "Reports")
 unfoldable pub readSites : ℕ → List ℕ → ℕ × List Site
+-- every site is read, and nothing is left
 readSites zero [] = (done, [])
+-- every site is read, and bytes are left between the last one and the tag: 15
 readSites zero (b ∷ l) = (sitesMisplaced, [])
+-- no length byte stands before the tag: 15
 readSites (suc n) [] = (sitesMisplaced, [])
+-- a label length that is 0 or over 48: 14; then a site that runs into the tag: 15; else the site, and the sites after it
 readSites (suc n) (size ∷ l) =
     cond (leb 1 size && leb size 48)
     (cond (leb (size + 12) (length l))

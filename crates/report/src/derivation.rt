@@ -39,22 +39,22 @@ fn info(purpose: u8, tenant: u32, machine: u64) -> [u8; 16]
 }
 
 // Both keys, each of a digest's size.
-fn derive(number: u32, size: usize, prk: &[u8], tenant: u32, machine: u64, out: &mut [u8])
-    requires { ⌜ Derivable number size (now prk) (now out) ⌝ }
-    ensures { λ _. ⌜ now (out .exit) ≡ keysOf (hashOf number) (now (prk .entry)) tenant machine ⌝ }
+fn derive(hash_number: u32, size: usize, prk: &[u8], tenant: u32, machine: u64, out: &mut [u8])
+    requires { ⌜ Derivable «hash_number» size (now prk) (now out) ⌝ }
+    ensures { λ _. ⌜ now (out .exit) ≡ keysOf (hashOf «hash_number») (now (prk .entry)) tenant machine ⌝ }
 {
     let tag_info = info(TAG, tenant, machine);
     let fingerprint_info = info(FINGERPRINT, tenant, machine);
-    hkdf::expand(number, prk, &tag_info, &mut out[..size]);
-    hkdf::expand(number, prk, &fingerprint_info, &mut out[size..]);
+    hkdf::expand(hash_number, prk, &tag_info, &mut out[..size]);
+    hkdf::expand(hash_number, prk, &fingerprint_info, &mut out[size..]);
 }
 
 // The tag key, then the fingerprint key; 2 where no report names the hash, 3 where the PRK is too long, 6 where the output has not the
 // bytes of two digests, 7 where the PRK is shorter than one.
-pub fn keys(number: u32, prk: &[u8], tenant: u32, machine: u64, out: &mut [u8]) -> u32
-    ensures { λ r. ⌜ KeysOutcome number (now (prk .entry)) tenant machine (now (out .entry)) r (now (out .exit)) ⌝ }
+pub fn keys(hash_number: u32, prk: &[u8], tenant: u32, machine: u64, out: &mut [u8]) -> u32
+    ensures { λ r. ⌜ KeysOutcome «hash_number» (now (prk .entry)) tenant machine (now (out .entry)) r (now (out .exit)) ⌝ }
 {
-    let named = hash_named(number);
+    let named = hash_named(hash_number);
     let Named::Is(hash) = named else {
         return algorithm::UNKNOWN_HASH;
     };
@@ -68,6 +68,6 @@ pub fn keys(number: u32, prk: &[u8], tenant: u32, machine: u64, out: &mut [u8]) 
     if prk.len() < size {
         return algorithm::PRK_TOO_SHORT;
     }
-    derive(number, size, prk, tenant, machine, out);
+    derive(hash_number, size, prk, tenant, machine, out);
     algorithm::DONE
 }

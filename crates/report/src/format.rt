@@ -29,10 +29,10 @@ pub(crate) const GAP_END: usize = 34;
 pub(crate) const FINGERPRINT: usize = 32;
 
 // The hash that a report names by a number. Reports have their own list: a hash that other calls make is none of theirs.
-pub(crate) fn hash_named(number: u32) -> Named
-    ensures { λ r. ⌜ r ≡ namedIn number ⌝ }
+pub(crate) fn hash_named(hash_number: u32) -> Named
+    ensures { λ r. ⌜ r ≡ namedIn «hash_number» ⌝ }
 {
-    match number {
+    match hash_number {
         1 => Named::Is(Hash::Sha256),
         2 => Named::Is(Hash::Sha512),
         _ => Named::Unknown,
@@ -40,8 +40,8 @@ pub(crate) fn hash_named(number: u32) -> Named
 }
 
 // The bytes of a report's tag, by the number of its hash: half a digest.
-pub(crate) fn tag_size(number: u32) -> usize
-    ensures { λ r. ⌜ r ≡ tagSize number ⌝ }
+pub(crate) fn tag_size(hash_number: u32) -> usize
+    ensures { λ r. ⌜ r ≡ tagSize «hash_number» ⌝ }
 {
-    if number == 2 { 32 } else { 16 }
+    if hash_number == 2 { 32 } else { 16 }
 }

@@ -10,7 +10,7 @@ const FIELDS: usize = 11;
 
 const SITE: usize = 4;
 
-// The fields of a reading, one behind the other.
+// The fields of a reading, one after the other.
 fn listed(found: Reading) -> [u64; FIELDS]
     ensures { λ r. ⌜ r ≡ listOf found ⌝ }
 {

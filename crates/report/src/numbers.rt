@@ -5,7 +5,7 @@ ghost use lib.ListN.{length};
 ghost use Rattle.report.specs.Inside.{NumberIs};
 
 // A byte as a number; in a function of its own its size needs no proof.
-fn wide(b: u8) -> u64
+fn as_number(b: u8) -> u64
     ensures { λ r. ⌜ r ≡ b ⌝ }
 {
     b as u64
@@ -20,7 +20,7 @@ pub(crate) fn number_at(bytes: &[u8], at: usize, size: usize) -> u64
     let mut n: u64 = 0;
     let mut i = 0;
     while i < size {
-        n = n * 256 + wide(bytes[at + i]);
+        n = n * 256 + as_number(bytes[at + i]);
         i += 1;
     }
     n

@@ -31,13 +31,16 @@ fn pass_site(body: &[u8], at: usize) -> Step
     requires { ⌜ at ≤ length (now body) ⌝ }
     ensures { λ r. ⌜ Stepped (now (body .entry)) at r ⌝ }
 {
+    // No length byte stands before the tag: 15.
     if body.len() <= at {
         return refused(algorithm::SITES_MISPLACED);
     }
     let size = body[at] as usize;
+    // The label length is 0 or over 48: 14.
     if size < 1 || LONGEST_LABEL < size {
         return refused(algorithm::LABEL_LENGTH_OUT_OF_RANGE);
     }
+    // The site runs into the tag: 15.
     if body.len() - at < size + BESIDE_LABEL {
         return refused(algorithm::SITES_MISPLACED);
     }

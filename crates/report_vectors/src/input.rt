@@ -19,7 +19,7 @@ pub(crate) fn one(whole: &mut bool) -> u8 {
     byte[0]
 }
 
-fn wide(byte: u8) -> u32 {
+fn as_number(byte: u8) -> u32 {
     byte as u32
 }
 
@@ -27,7 +27,10 @@ fn wide(byte: u8) -> u32 {
 pub(crate) fn four(whole: &mut bool) -> u32 {
     let mut bytes = [0u8; 4];
     fill(&mut bytes, whole);
-    (wide(bytes[0]) << 24) | (wide(bytes[1]) << 16) | (wide(bytes[2]) << 8) | wide(bytes[3])
+    (as_number(bytes[0]) << 24)
+        | (as_number(bytes[1]) << 16)
+        | (as_number(bytes[2]) << 8)
+        | as_number(bytes[3])
 }
 
 // A number of eight bytes.
@@ -49,7 +52,7 @@ pub(crate) fn size(most: usize, whole: &mut bool) -> usize
     n
 }
 
-// A string of bytes behind its size, into the start of a space, and that size.
+// A string of bytes after its size, into the start of a space, and that size.
 pub(crate) fn string(space: &mut [u8], whole: &mut bool) -> usize
     ensures { λ r. ⌜ r ≤ length (now (space .exit)) ⌝ }
 {

@@ -11,19 +11,19 @@ pub(crate) fn number(n: u64) {
     io::print_decimal(STDOUT_FILENO, n);
 }
 
-// A number behind others.
+// A number after others.
 fn next(n: u64) {
     text(b" ");
     number(n);
 }
 
-fn wide(byte: u8) -> u64 {
+fn as_number(byte: u8) -> u64 {
     byte as u64
 }
 
 fn hex(bytes: &[u8]) {
     for i in 0..bytes.len() {
-        io::print_hex(STDOUT_FILENO, wide(bytes[i]), 2);
+        io::print_hex(STDOUT_FILENO, as_number(bytes[i]), 2);
     }
 }
 

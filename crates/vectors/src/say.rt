@@ -13,13 +13,13 @@ pub(crate) fn number(n: u64) {
     io::print_decimal(STDOUT_FILENO, n);
 }
 
-fn wide(byte: u8) -> u64 {
+fn as_number(byte: u8) -> u64 {
     byte as u64
 }
 
 pub(crate) fn hex(bytes: &[u8]) {
     for i in 0..bytes.len() {
-        io::print_hex(STDOUT_FILENO, wide(bytes[i]), 2);
+        io::print_hex(STDOUT_FILENO, as_number(bytes[i]), 2);
     }
 }
 

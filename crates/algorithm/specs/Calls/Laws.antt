@@ -1,4 +1,4 @@
--- Laws of what `which` answers, for the layers above: whether the number names a hash, and which. Assumes nothing.
+-- Proved: laws of what `which` answers, for the layers above: whether the number names a hash, and which. Assumes nothing.
 use mathlib.Core.Path.{_≡_, refl, sym, ap, _∙_}
 use mathlib.Core.Bool.{Bool, true, false}
 use Prim.Native.Nat.{ℕ}

@@ -1,4 +1,4 @@
--- No second outcome: what meets the outcome predicate of a function, as its contract cites it, is one. Assumes nothing.
+-- Proved: no second outcome: what meets the outcome predicate of a function, as its contract cites it, is one. Assumes nothing.
 use mathlib.Core.Path.{_≡_}
 use Prim.Native.Nat.{ℕ}
 use Rattle.algorithm.specs.Checks.Laws.{one-outcome}

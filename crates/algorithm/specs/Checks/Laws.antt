@@ -1,4 +1,4 @@
--- Laws of checks in their order: a number comes back exactly when its check fails and every earlier one passes; a call is done
+-- Proved: laws of checks in their order: a number comes back exactly when its check fails and every earlier one passes; a call is done
 -- exactly when all pass; and no second outcome meets an equation that a first one meets. Assumes nothing.
 use mathlib.Core.Path.{_≡_, refl, sym, subst, _∙_}
 use mathlib.Core.Logic.{_↔_}
@@ -56,7 +56,7 @@ exactly-done cs r = (done-passes cs r, passes-done)
 pub refuses : (b : Bool) (n : ℕ) {cs : List Check} → Refusing cs → Refusing (check b (suc n) ∷ cs)
 refuses b n r = more {c = check b (suc n)} (λ f e. omega arith) r
 
--- checks behind others: where one of the first fails the rest play no part, and where all of them pass the rest decide
+-- checks after others: where one of the first fails the rest play no part, and where all of them pass the rest decide
 pub append-refuses : (a b : List Check) → (firstFailing a ≡ done → ⊥) → firstFailing (a ++ b) ≡ firstFailing a
 append-refuses [] b z = absurd (z refl)
 append-refuses (c ∷ a) b z = elim (test (c .passes)) [

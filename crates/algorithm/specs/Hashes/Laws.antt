@@ -1,4 +1,4 @@
--- Laws of the hashes that we make, for the layers above. Assumes nothing.
+-- Proved: laws of the hashes that we make, for the layers above. Assumes nothing.
 use mathlib.Core.Path.{_≡_, refl}
 use mathlib.Core.Bool.{Bool, true, false, cond}
 use Prim.Native.Nat.{ℕ, _*_, _≤_, _<_}

@@ -1,4 +1,4 @@
--- Laws of a run of pieces, once over any state that takes them: refused pieces change nothing, and what stands after a run is what
+-- Proved: laws of a run of pieces, once over any state that takes them: refused pieces change nothing, and what stands after a run is what
 -- stands after the bytes taken, given in one. Assumes nothing.
 use mathlib.Core.Path.{_≡_, refl, sym, ap, subst, _∙_}
 use mathlib.Core.List.{List, [], _∷_, _++_, flatten}

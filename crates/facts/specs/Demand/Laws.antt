@@ -1,4 +1,4 @@
--- Demand 3 holds; and the fingerprint comes from the blocks that it speaks of. Assumes nothing.
+-- Proved: Demand 3 holds; and the fingerprint comes from the blocks that it speaks of. Assumes nothing.
 use mathlib.Core.Path.{_≡_, sym, ap, _∙_}
 use mathlib.Core.List.{List, _++_}
 use Prim.Native.Nat.{ℕ, _+_, _≤_}

@@ -1,4 +1,4 @@
--- The shortcut fails: two reports would share its message. Assumes nothing.
+-- Proved: the shortcut fails: two reports would share its message. Assumes nothing.
 use mathlib.Core.Path.{_≡_, refl, ap}
 use mathlib.Core.List.{List}
 use Prim.Native.Nat.{ℕ}

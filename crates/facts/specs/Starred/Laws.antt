@@ -1,4 +1,4 @@
--- The starred cases hold: each is a theorem about the definitions. Assumes nothing.
+-- Proved: the starred cases hold: each is a theorem about the definitions. Assumes nothing.
 use mathlib.Core.Path.{_≡_, refl, sym, ap, _∙_}
 use mathlib.Core.List.{List, [], _∷_, _++_}
 use Prim.Native.Nat.{ℕ, _+_, _-_}
@@ -12,7 +12,7 @@ use Rattle.algorithm.specs.declared.hashes.Hash.the-variants.{Sha256, Sha512}
 use Rattle.algorithm.specs.Hashes.{blockOf}
 use Rattle.algorithm.specs.Refusals.{done}
 use Rattle.hash.specs.Description.{describe, narrow, wide}
-use Rattle.hash.specs.Sha2.{blockSize, fieldSize, zeros}
+use Rattle.hash.specs.Sha2.{blockSize, fieldSize, zeroCount}
 use Rattle.hash.specs.Digest.{blocksOf, blockCountOf}
 use Rattle.hash.specs.Digest.Laws.{count-of-blocks}
 use Rattle.hmac.specs.Form.{formOf, innerPad, outerPad}
@@ -44,16 +44,16 @@ zero-well-formed : WellFormed (worked ++ zeroTag)
 unfolding every
 zero-well-formed = record { bytes = refl; reads = ap (λ (r : ℕ × Fields). r .0) zero-reads }
 
--- and its message has 22 bytes before the gap, and 26 behind it
+-- and its message has 22 bytes before the gap, and 26 after it
 worked-length : (tag : List ℕ) → length tag ≡ 16 → length (messageOf (worked ++ tag)) ≡ 48
 unfolding messageOf
 worked-length tag e = ap (λ (l : List ℕ). length (slice 4 gapStart (worked ++ tag) ++ drop gapEnd l)) (before-tag tag e)
 
 -- the forms, for each hash
-zero-behind : (h : Hash) → formOf h (0x01 ∷ []) ≡ formOf h (0x01 ∷ 0x00 ∷ [])
+zero-after : (h : Hash) → formOf h (0x01 ∷ []) ≡ formOf h (0x01 ∷ 0x00 ∷ [])
 unfolding formOf
-zero-behind Sha256 = refl
-zero-behind Sha512 = refl
+zero-after Sha256 = refl
+zero-after Sha512 = refl
 
 zero-before : (h : Hash) → formOf h (0x01 ∷ []) ≡ formOf h (0x00 ∷ 0x01 ∷ []) → ⊥
 unfolding formOf
@@ -66,7 +66,7 @@ empty-key Sha256 = refl
 empty-key Sha512 = refl
 
 pub starred : Starred
-unfolding blockCountOf zeros blockSize fieldSize describe narrow wide formOf innerPad outerPad infoOf bytes
+unfolding blockCountOf zeroCount blockSize fieldSize describe narrow wide formOf innerPad outerPad infoOf bytes
 starred = record {
   narrow-0 = λ m. counted Sha256 0 1 m refl;
   narrow-55 = λ m. counted Sha256 55 1 m refl;
@@ -74,7 +74,7 @@ starred = record {
   narrow-64 = λ m. counted Sha256 64 2 m refl;
   wide-111 = λ m. counted Sha512 111 1 m refl;
   wide-112 = λ m. counted Sha512 112 2 m refl;
-  zero-behind = zero-behind;
+  zero-after = zero-after;
   zero-before = zero-before;
   empty-key = empty-key;
   inner-starts = refl;

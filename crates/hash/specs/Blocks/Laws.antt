@@ -1,4 +1,4 @@
--- Laws of bytes cut into blocks, over the size of a block and the step. Assumes nothing.
+-- Proved: laws of bytes cut into blocks, over the size of a block and the step. Assumes nothing.
 use mathlib.Core.Path.{_≡_, refl, sym, ap, _∙_}
 use mathlib.Core.List.{List, [], _∷_, _++_, append-assoc, foldl, foldl-append, flatten}
 use Prim.Native.Nat.{ℕ, zero, suc, _+_, _-_, _*_, _/_, _%_, _≤_, _<_}
@@ -12,7 +12,7 @@ use Rattle.hash.specs.Blocks.Sized.{none, more}
 use Rattle.hash.specs.Blocks.{Sized, firstBlocks, wholeBlocks, leftOver, wordsAfter}
 
 module _ (B : ℕ) where
-  -- what stands behind n blocks plays no part in them
+  -- what stands after n blocks plays no part in them
   first-front : (n : ℕ) (l t : List ℕ) → n * B ≤ length l → firstBlocks B n (l ++ t) ≡ firstBlocks B n l
   unfolding firstBlocks
   first-front zero l t h = refl
@@ -81,7 +81,7 @@ module _ (B : ℕ) where
   pub left-less : (l : List ℕ) → 0 < B → length (leftOver B l) < B
   left-less l p = omega (arith, left-length l, mod-lt (length l) p)
 
-  -- as a loan of the part behind the whole blocks has it
+  -- as a loan of the part after the whole blocks has it
   pub left-part : (l : List ℕ) → take (length l - (length l - length l % B)) (drop (length l - length l % B) l) ≡ leftOver B l
   unfolding leftOver
   left-part l =
@@ -145,7 +145,7 @@ module _ (B : ℕ) where
         ap (λ (k : ℕ). foldl step ws (firstBlocks B k l)) e
         ∙ ap (λ (k : ℕ). foldl step (step ws (take B l)) (firstBlocks B (k / B) (drop B l))) (sym (length-drop B l))
 
-    -- a and then b is a with b behind it
+    -- a and then b is a with b after it
     pub words-append : (ws a b : List ℕ) → 0 < B
         → wordsAfter B step ws (a ++ b) ≡ wordsAfter B step (wordsAfter B step ws a) (leftOver B a ++ b)
     unfolding wordsAfter

@@ -1,4 +1,5 @@
--- Laws of the calls, for the layers above and for this crate's proofs: what each answers once its checks are known. Assumes nothing.
+-- Proved: laws of the calls, for the layers above and for this crate's proofs: what each answers once its checks are known. Assumes
+-- nothing.
 use mathlib.Core.Path.{_≡_, refl, sym, subst}
 use mathlib.Core.Logic.{_↔_}
 use mathlib.Core.Bool.{Bool, true, false}

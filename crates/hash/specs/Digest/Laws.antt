@@ -1,4 +1,4 @@
--- Laws of the hashes that we make, for the layers above: their sizes are those of the algorithm crate, a digest has its size,
+-- Proved: laws of the hashes that we make, for the layers above: their sizes are those of the algorithm crate, a digest has its size,
 -- the padded blocks are counted by the length and shared by no two messages. Assumes nothing.
 use mathlib.Core.Path.{_≡_, refl, ap, subst, _∙_}
 use mathlib.Core.List.{List, [], _∷_, foldl}
@@ -14,7 +14,7 @@ use Rattle.algorithm.specs.Hashes.{blockOf, sizeOf}
 use Rattle.hash.specs.Table.{first64, first32}
 use Rattle.hash.specs.Description.{Core, describe, narrow, wide}
 use Rattle.hash.specs.Blocks.{Sized}
-use Rattle.hash.specs.Sha2.{wordSize, blockSize, fieldSize, zeros, step, spell, keep, digest, digestFrom, blocks}
+use Rattle.hash.specs.Sha2.{wordSize, blockSize, fieldSize, zeroCount, step, spell, keep, digest, digestFrom, blocks}
 use Rattle.hash.specs.Sha2.Laws.{step-length, spell-length}
 use Rattle.hash.specs.Sha2.Padding.{blocks-count, blocks-sized, blocks-injective}
 use Rattle.hash.specs.Digest.{blocksOf, fromBlocks, digestOf, blockCountOf, Described}
@@ -60,7 +60,7 @@ module _ (h : Hash) (m : List ℕ) where
   unfolding blocksOf blockCountOf
   count-of-blocks =
       blocks-count (describe h .core) (positive h) m
-      ∙ ap (λ (B : ℕ). (length m + 1 + zeros (describe h .core) (length m) + fieldSize (describe h .core)) / B) (described h .block-is)
+      ∙ ap (λ (B : ℕ). (length m + 1 + zeroCount (describe h .core) (length m) + fieldSize (describe h .core)) / B) (described h .block-is)
 
   pub sized-blocks : Sized (blockOf h) (blocksOf h m)
   unfolding blocksOf

@@ -1,4 +1,4 @@
--- The digest opened, for this crate's own proofs alone. Assumes nothing.
+-- Proved: the digest opened, for this crate's own proofs alone. Assumes nothing.
 use mathlib.Core.Path.{_≡_, refl}
 use mathlib.Core.List.{List, _++_, foldl}
 use Prim.Native.Nat.{ℕ}

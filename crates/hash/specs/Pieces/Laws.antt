@@ -1,4 +1,4 @@
--- Laws of a run of pieces: refused ones change nothing, and from a start it ends as the one-piece digest of the bytes taken.
+-- Proved: laws of a run of pieces: refused ones change nothing, and from a start it ends as the one-piece digest of the bytes taken.
 -- Assumes nothing.
 use mathlib.Core.Path.{_≡_, refl, sym, ap, _∙_}
 use mathlib.Core.Bool.{Bool, true, false, cond}
@@ -30,7 +30,7 @@ taking = record {
   taken = λ s p h l. ap both (update-accepted s p (h .sound) l);
   too-long = λ s p h l. ap both (update-too-long s p (h .sound) l);
   after-nothing = after-nothing;
-  after-append = λ s p q h. after-append s p (h .wide) q;
+  after-append = λ s p q h. after-append s p (h .waiting-size) q;
   after-count = after-count;
   after-held = after-held;
 }

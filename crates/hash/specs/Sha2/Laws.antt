@@ -1,4 +1,4 @@
--- Laws of the block step and of words as bytes, over the core of a hash. Assumes nothing.
+-- Proved: laws of the block step and of words as bytes, over the core of a hash. Assumes nothing.
 use mathlib.Core.Path.{_≡_, refl, sym}
 use mathlib.Core.Bool.{true, _&&_}
 use mathlib.Core.List.{List, [], _∷_}

@@ -1,4 +1,4 @@
--- Laws of the padding, over the core of a hash: it ends at a block with the fewest zeros, and no two messages share their
+-- Proved: laws of the padding, over the core of a hash: it ends at a block with the fewest zeros, and no two messages share their
 -- padded blocks. The one condition is that a block has a byte. Assumes nothing.
 use mathlib.Core.Path.{_≡_, refl, sym, ap, _∙_}
 use mathlib.Core.List.{List, [], _∷_, _++_, append-assoc, flatten}
@@ -13,7 +13,7 @@ use Rattle.octets.specs.Number.Laws.{bytes-length}
 use Rattle.hash.specs.Description.{Core}
 use Rattle.hash.specs.Blocks.{Sized}
 use Rattle.hash.specs.Blocks.Laws.{whole-length, whole-sized, whole-flat}
-use Rattle.hash.specs.Sha2.{blockSize, fieldSize, zeros, lengthField, padding, blocks}
+use Rattle.hash.specs.Sha2.{blockSize, fieldSize, zeroCount, lengthField, padding, blocks}
 
 -- no mark stands in zeros
 no-mark : (i : ℕ) (b : List ℕ) (j : ℕ) → replicate i 0 ≡ b ++ (0x80 ∷ replicate j 0) → ⊥
@@ -22,7 +22,7 @@ no-mark zero (y ∷ b) j e = let z : _≡_ {A = ℕ} 0 1 = cc in omega arith
 no-mark (suc i) [] j e = let z : _≡_ {A = ℕ} 0 0x80 = cc in omega arith
 no-mark (suc i) (y ∷ b) j e = let t : replicate i 0 ≡ b ++ (0x80 ∷ replicate j 0) = cc in no-mark i b j t
 
--- the last mark of a list, with zeros behind it, says where the list before it ends
+-- the last mark of a list, with zeros after it, says where the list before it ends
 marked : (a b : List ℕ) (i j : ℕ) → a ++ (0x80 ∷ replicate i 0) ≡ b ++ (0x80 ∷ replicate j 0) → a ≡ b
 marked [] [] i j e = refl
 marked [] (y ∷ b) i j e = let t : replicate i 0 ≡ b ++ (0x80 ∷ replicate j 0) = cc in absurd (no-mark i b j t)
@@ -41,8 +41,8 @@ fronts p f q g h e =
 
 module _ (C : Core) (positive : 0 < blockSize C) where
   -- where r bytes begin the block that takes the rest, the zeros fill it
-  pub zeros-after : (n j r : ℕ) → n + 1 + fieldSize C ≡ j * blockSize C + r → 0 < r → r ≤ blockSize C → zeros C n ≡ blockSize C - r
-  unfolding zeros
+  pub zeros-after : (n j r : ℕ) → n + 1 + fieldSize C ≡ j * blockSize C + r → 0 < r → r ≤ blockSize C → zeroCount C n ≡ blockSize C - r
+  unfolding zeroCount
   zeros-after n j r e p h =
       let B : ℕ = blockSize C in
       elim (decLe B r) [
@@ -56,32 +56,32 @@ module _ (C : Core) (positive : 0 < blockSize C) where
       ]
 
   -- in one equation: what the block lacks that the last of the other bytes stands in
-  zeros-is : (n : ℕ) → zeros C n ≡ blockSize C - ((n + fieldSize C) % blockSize C + 1)
+  zeros-is : (n : ℕ) → zeroCount C n ≡ blockSize C - ((n + fieldSize C) % blockSize C + 1)
   zeros-is n =
       let x : ℕ = n + fieldSize C in
       let h : x % blockSize C < blockSize C = mod-lt x positive in
       zeros-after n (x / blockSize C) (x % blockSize C + 1) (omega (arith, div-add-mod' x (blockSize C))) (omega arith) (omega arith)
 
   -- whole blocks of the message play no part
-  pub zeros-rest : (n : ℕ) → zeros C (n % blockSize C) ≡ zeros C n
+  pub zeros-rest : (n : ℕ) → zeroCount C (n % blockSize C) ≡ zeroCount C n
   zeros-rest n =
       zeros-is (n % blockSize C) ∙ ap (λ (k : ℕ). blockSize C - (k + 1)) (mod-add-mod n (blockSize C) (fieldSize C)) ∙ sym (zeros-is n)
 
   -- the padded message ends at a block
-  pub ends-at-block : (n : ℕ) → (n + 1 + zeros C n + fieldSize C) % blockSize C ≡ 0
+  pub ends-at-block : (n : ℕ) → (n + 1 + zeroCount C n + fieldSize C) % blockSize C ≡ 0
   ends-at-block n =
       let B : ℕ = blockSize C in
       let x : ℕ = n + fieldSize C in
       let h : x % B < B = mod-lt x positive in
-      let s : n + 1 + zeros C n + fieldSize C ≡ suc (x / B) * B = omega (arith, div-add-mod' x B, zeros-is n) in
+      let s : n + 1 + zeroCount C n + fieldSize C ≡ suc (x / B) * B = omega (arith, div-add-mod' x B, zeros-is n) in
       ap (λ (k : ℕ). k % B) s ∙ mul-mod-left (suc (x / B)) B
 
   -- and no smaller number of zeros makes it so
-  pub fewest-zeros : (n z : ℕ) → (n + 1 + z + fieldSize C) % blockSize C ≡ 0 → zeros C n ≤ z
+  pub fewest-zeros : (n z : ℕ) → (n + 1 + z + fieldSize C) % blockSize C ≡ 0 → zeroCount C n ≤ z
   fewest-zeros n z m =
       let B : ℕ = blockSize C in
       let x : ℕ = n + fieldSize C in
-      elim (decLe (zeros C n) z) [
+      elim (decLe (zeroCount C n) z) [
         | yes l ↦ l
         | no l ↦
             let s : n + 1 + z + fieldSize C ≡ x / B * B + (x % B + 1 + z) = omega (arith, div-add-mod' x B) in
@@ -94,17 +94,17 @@ module _ (C : Core) (positive : 0 < blockSize C) where
   unfolding lengthField
   field-length n = bytes-length (fieldSize C) _
 
-  pub padding-length : (n : ℕ) → length (padding C n) ≡ 1 + zeros C n + fieldSize C
+  pub padding-length : (n : ℕ) → length (padding C n) ≡ 1 + zeroCount C n + fieldSize C
   unfolding padding
   padding-length n =
-      omega (arith, length-append (0x80 ∷ replicate (zeros C n) 0) (lengthField C n), length-replicate {A = ℕ} (zeros C n) 0, field-length n)
+      omega (arith, length-append (0x80 ∷ replicate (zeroCount C n) 0) (lengthField C n), length-replicate {A = ℕ} (zeroCount C n) 0, field-length n)
 
   module _ (m : List ℕ) where
-    padded-length : length (m ++ padding C (length m)) ≡ length m + 1 + zeros C (length m) + fieldSize C
+    padded-length : length (m ++ padding C (length m)) ≡ length m + 1 + zeroCount C (length m) + fieldSize C
     padded-length = omega (arith, length-append m (padding C (length m)), padding-length (length m))
 
     -- the padded blocks: how many, each of its size, and joined the padded message
-    pub blocks-count : length (blocks C m) ≡ (length m + 1 + zeros C (length m) + fieldSize C) / blockSize C
+    pub blocks-count : length (blocks C m) ≡ (length m + 1 + zeroCount C (length m) + fieldSize C) / blockSize C
     unfolding blocks
     blocks-count = whole-length (blockSize C) (m ++ padding C (length m)) ∙ ap (λ (k : ℕ). k / blockSize C) padded-length
 
@@ -124,7 +124,7 @@ module _ (C : Core) (positive : 0 < blockSize C) where
   pub blocks-injective : (m n : List ℕ) → blocks C m ≡ blocks C n → m ≡ n
   unfolding padding
   blocks-injective m n e =
-      let z : ℕ → ℕ = zeros C in
+      let z : ℕ → ℕ = zeroCount C in
       let front : List ℕ → List ℕ = λ l. l ++ (0x80 ∷ replicate (z (length l)) 0) in
       let f : List ℕ → List ℕ = λ l. lengthField C (length l) in
       let whole : (l : List ℕ) → l ++ padding C (length l) ≡ front l ++ f l =

@@ -1,4 +1,4 @@
--- Laws of work in pieces, for the layers above: bytes cut anywhere lead to one state, bytes keep a state sound and are counted,
+-- Proved: laws of work in pieces, for the layers above: bytes cut anywhere lead to one state, bytes keep a state sound and are counted,
 -- and a start that took a message ends in the message's digest. Assumes nothing.
 use mathlib.Core.Path.{_≡_, refl, sym, ap, _∙_}
 use mathlib.Core.Bool.{true, _&&_}
@@ -25,33 +25,33 @@ use Rattle.hash.specs.Sha2.Laws.{step-fits}
 use Rattle.hash.specs.Digest.{digestOf, blocksOf}
 use Rattle.hash.specs.Digest.Laws.{described, fold-length, keep-length}
 use Rattle.hash.specs.Digest.Open.{blocks-is, digest-is}
-use Rattle.hash.specs.State.{places, heldOf, waitingOf, fit, wordsOf, placed, soundOf, Held, from, freshOf, zeroState, afterOf, endOf}
+use Rattle.hash.specs.State.{largestBlock, waitingCount, waitingOf, fit, wordsOf, placed, soundOf, Held, from, freshOf, zeroState, afterOf, endOf}
 use Rattle.hash.specs.declared.state.State.{State}
 
 -- fewer bytes wait than a block has
-pub held-less : (s : State) → heldOf s < blockOf (s .hash)
-held-less s = mod-lt (s .count) (block-positive (s .hash))
+pub waiting-less : (s : State) → waitingCount s < blockOf (s .hash)
+waiting-less s = mod-lt (s .count) (block-positive (s .hash))
 
-pub held-most : (s : State) → heldOf s ≤ places
-held-most s = omega (arith, held-less s, block-most (s .hash))
+pub waiting-most : (s : State) → waitingCount s ≤ largestBlock
+waiting-most s = omega (arith, waiting-less s, block-most (s .hash))
 
 -- as many bytes wait as the count says
-pub waiting-length : (s : State) → length (s .waiting) ≡ places → length (waitingOf s) ≡ heldOf s
-waiting-length s w = length-take-le (heldOf s) (s .waiting) (omega (arith, held-most s))
+pub waiting-length : (s : State) → length (s .waiting) ≡ largestBlock → length (waitingOf s) ≡ waitingCount s
+waiting-length s w = length-take-le (waitingCount s) (s .waiting) (omega (arith, waiting-most s))
 
 -- the test of a sound state, part by part
-pub sound-is : (s : State) → soundOf s ≡ (leb (s .count) mostBytes && (allZero (drop (heldOf s) (s .waiting)) && fit (s .hash) (s .words)))
+pub sound-is : (s : State) → soundOf s ≡ (leb (s .count) mostBytes && (allZero (drop (waitingCount s) (s .waiting)) && fit (s .hash) (s .words)))
 unfolding soundOf
 sound-is s = refl
 
 -- a state made by hand is sound where each part of the test holds
-pub sound-made : (s : State) → s .count ≤ mostBytes → allZero (drop (heldOf s) (s .waiting)) ≡ true → fit (s .hash) (s .words) ≡ true → soundOf s ≡ true
+pub sound-made : (s : State) → s .count ≤ mostBytes → allZero (drop (waitingCount s) (s .waiting)) ≡ true → fit (s .hash) (s .words) ≡ true → soundOf s ≡ true
 unfolding soundOf
 sound-made s c z w = rw (le-leb (s .count) mostBytes c, z) w
 
 -- what the test of a sound state says
 module _ (s : State) (h : soundOf s ≡ true) where
-  sound-rest : (allZero (drop (heldOf s) (s .waiting)) && fit (s .hash) (s .words)) ≡ true
+  sound-rest : (allZero (drop (waitingCount s) (s .waiting)) && fit (s .hash) (s .words)) ≡ true
   unfolding soundOf
   sound-rest = and-parts (leb (s .count) mostBytes) _ h .1
 
@@ -59,11 +59,11 @@ module _ (s : State) (h : soundOf s ≡ true) where
   unfolding soundOf
   sound-count = leb-true (s .count) mostBytes (and-parts (leb (s .count) mostBytes) _ h .0)
 
-  pub sound-zeros : allZero (drop (heldOf s) (s .waiting)) ≡ true
-  sound-zeros = and-parts (allZero (drop (heldOf s) (s .waiting))) (fit (s .hash) (s .words)) sound-rest .0
+  pub sound-zeros : allZero (drop (waitingCount s) (s .waiting)) ≡ true
+  sound-zeros = and-parts (allZero (drop (waitingCount s) (s .waiting))) (fit (s .hash) (s .words)) sound-rest .0
 
   pub sound-words : fit (s .hash) (s .words) ≡ true
-  sound-words = and-parts (allZero (drop (heldOf s) (s .waiting))) (fit (s .hash) (s .words)) sound-rest .1
+  sound-words = and-parts (allZero (drop (waitingCount s) (s .waiting))) (fit (s .hash) (s .words)) sound-rest .1
 
 -- words that fit still fit after blocks
 fold-fits : (h : Hash) (bs : List (List ℕ)) (ws : List ℕ) → fit h ws ≡ true → fit h (foldl (step (describe h .core)) ws bs) ≡ true
@@ -88,25 +88,25 @@ module _ (s : State) (m : List ℕ) where
   unfolding afterOf
   after-count = refl
 
-module _ (s : State) (m : List ℕ) (w : length (s .waiting) ≡ places) where
-  left-held : length (leftOver (blockOf (s .hash)) (waitingOf s ++ m)) ≡ (s .count + length m) % blockOf (s .hash)
-  left-held =
+module _ (s : State) (m : List ℕ) (w : length (s .waiting) ≡ largestBlock) where
+  left-waiting : length (leftOver (blockOf (s .hash)) (waitingOf s ++ m)) ≡ (s .count + length m) % blockOf (s .hash)
+  left-waiting =
       left-length (blockOf (s .hash)) (waitingOf s ++ m)
       ∙ ap (λ (n : ℕ). n % blockOf (s .hash)) (length-append (waitingOf s) m ∙ ap (λ (n : ℕ). n + length m) (waiting-length s w))
       ∙ mod-add-mod (s .count) (blockOf (s .hash)) (length m)
 
-  -- what waits after bytes is what they leave behind the whole blocks
+  -- what waits after bytes is what they leave after the whole blocks
   pub after-waiting : waitingOf (afterOf s m) ≡ leftOver (blockOf (s .hash)) (waitingOf s ++ m)
   unfolding afterOf
   after-waiting =
-      take-at (leftOver (blockOf (s .hash)) (waitingOf s ++ m)) (replicate (places - length (leftOver (blockOf (s .hash)) (waitingOf s ++ m))) 0) _ left-held
+      take-at (leftOver (blockOf (s .hash)) (waitingOf s ++ m)) (replicate (largestBlock - length (leftOver (blockOf (s .hash)) (waitingOf s ++ m))) 0) _ left-waiting
 
-  after-wide : length (afterOf s m .waiting) ≡ places
+  after-waiting-size : length (afterOf s m .waiting) ≡ largestBlock
   unfolding afterOf
-  after-wide =
+  after-waiting-size =
       let r : List ℕ = leftOver (blockOf (s .hash)) (waitingOf s ++ m) in
       let lt : (s .count + length m) % blockOf (s .hash) < blockOf (s .hash) = mod-lt (s .count + length m) (block-positive (s .hash)) in
-      omega (arith, length-append r (replicate (places - length r) 0), length-replicate {A = ℕ} (places - length r) 0, left-held, block-most (s .hash))
+      omega (arith, length-append r (replicate (largestBlock - length r) 0), length-replicate {A = ℕ} (largestBlock - length r) 0, left-waiting, block-most (s .hash))
 
   -- bytes cut anywhere lead to one state
   pub after-append : (n : List ℕ) → afterOf (afterOf s m) n ≡ afterOf s (m ++ n)
@@ -130,15 +130,15 @@ pub after-nothing : (s : State) → Held s → afterOf s [] ≡ s
 unfolding afterOf
 after-nothing s h =
     let B = blockOf (s .hash) in
-    let n : length (waitingOf s) ≡ heldOf s = waiting-length s (h .wide) in
-    let lt : length (waitingOf s) < B = omega (arith, held-less s) in
-    let c : length (drop (heldOf s) (s .waiting)) ≡ places - length (waitingOf s) =
-    omega (arith, length-drop (heldOf s) (s .waiting), h .wide)
+    let n : length (waitingOf s) ≡ waitingCount s = waiting-length s (h .waiting-size) in
+    let lt : length (waitingOf s) < B = omega (arith, waiting-less s) in
+    let c : length (drop (waitingCount s) (s .waiting)) ≡ largestBlock - length (waitingOf s) =
+    omega (arith, length-drop (waitingCount s) (s .waiting), h .waiting-size)
     in
-    let z : drop (heldOf s) (s .waiting) ≡ replicate (places - length (waitingOf s)) 0 =
-    all-zeros (drop (heldOf s) (s .waiting)) (sound-zeros s (h .sound)) ∙ ap (λ (k : ℕ). replicate k 0) c
+    let z : drop (waitingCount s) (s .waiting) ≡ replicate (largestBlock - length (waitingOf s)) 0 =
+    all-zeros (drop (waitingCount s) (s .waiting)) (sound-zeros s (h .sound)) ∙ ap (λ (k : ℕ). replicate k 0) c
     in
-    let p : placed (waitingOf s) ≡ s .waiting = ap (λ (r : List ℕ). waitingOf s ++ r) (sym z) ∙ take-append-drop (heldOf s) (s .waiting) in
+    let p : placed (waitingOf s) ≡ s .waiting = ap (λ (r : List ℕ). waitingOf s ++ r) (sym z) ∙ take-append-drop (waitingCount s) (s .waiting) in
     rw (append-nil, words-short B (step (describe (s .hash) .core)) (s .words) (waitingOf s) lt, left-short B (waitingOf s) lt, add-zero, p)
 
 -- bytes that fit the limit keep a state sound
@@ -149,27 +149,27 @@ after-held s m h fits =
     let l : List ℕ = waitingOf s ++ m in
     let r : List ℕ = leftOver B l in
     let d : allZero (drop ((s .count + length m) % B) (placed r)) ≡ true =
-    ap allZero (drop-at r (replicate (places - length r) 0) ((s .count + length m) % B) (left-held s m (h .wide))) ∙ zeros-all (places - length r)
+    ap allZero (drop-at r (replicate (largestBlock - length r) 0) ((s .count + length m) % B) (left-waiting s m (h .waiting-size))) ∙ zeros-all (largestBlock - length r)
     in
     record {
       eight = words-eight (s .hash) (s .words) l (h .eight);
-      wide = after-wide s m (h .wide);
+      waiting-size = after-waiting-size s m (h .waiting-size);
       sound = rw (le-leb (s .count + length m) mostBytes fits, d) (words-fit (s .hash) (s .words) l (sound-words s (h .sound)));
     }
 
 -- zeros wait, so a state at count 0 is sound where its words fit
 start-sound : (h : Hash) (ws : List ℕ) → fit h ws ≡ true
-    → (allZero (drop (0 % blockOf h) (replicate places 0)) && fit h ws) ≡ true
+    → (allZero (drop (0 % blockOf h) (replicate largestBlock 0)) && fit h ws) ≡ true
 start-sound h ws p =
-    let z : allZero (drop (0 % blockOf h) (replicate places 0)) ≡ true =
-    every-drop (λ x. eqb x 0) (0 % blockOf h) (replicate places 0) (zeros-all places)
+    let z : allZero (drop (0 % blockOf h) (replicate largestBlock 0)) ≡ true =
+    every-drop (λ x. eqb x 0) (0 % blockOf h) (replicate largestBlock 0) (zeros-all largestBlock)
     in
     rw z p
 
 -- a start is sound, with nothing taken
 pub fresh-held : (h : Hash) → Held (freshOf h)
 unfolding freshOf soundOf
-fresh-held h = record { eight = described h .first-eight; wide = refl; sound = start-sound h (describe h .first) (described h .first-fits) }
+fresh-held h = record { eight = described h .first-eight; waiting-size = refl; sound = start-sound h (describe h .first) (described h .first-fits) }
 
 pub fresh-hash : (h : Hash) → freshOf h .hash ≡ h
 unfolding freshOf
@@ -186,7 +186,7 @@ zero-fits = refl
 
 pub zero-held : Held zeroState
 unfolding zeroState soundOf
-zero-held = record { eight = refl; wide = refl; sound = start-sound Sha256 (replicate 8 0) zero-fits }
+zero-held = record { eight = refl; waiting-size = refl; sound = start-sound Sha256 (replicate 8 0) zero-fits }
 
 -- a digest comes out of every end
 pub end-length : (s : State) → length (s .words) ≡ 8 → length (endOf s) ≡ sizeOf (s .hash)
@@ -195,8 +195,8 @@ end-length s e =
     keep-length (s .hash) _
     (words-eight (s .hash) (s .words) (waitingOf s ++ padding (describe (s .hash) .core) (s .count)) e)
 
--- the end after bytes: of what waited, the bytes and the padding behind them
-pub end-after : (s : State) (m : List ℕ) → length (s .waiting) ≡ places
+-- the end after bytes: of what waited, the bytes and the padding after them
+pub end-after : (s : State) (m : List ℕ) → length (s .waiting) ≡ largestBlock
     → endOf (afterOf s m) ≡ keep (describe (s .hash))
     (wordsOf (s .hash) (s .words) ((waitingOf s ++ m) ++ padding (describe (s .hash) .core) (s .count + length m)))
 unfolding endOf afterOf
@@ -213,7 +213,7 @@ pub end-from : (h : Hash) (ws m : List ℕ) → endOf (afterOf (from h ws) m) �
 unfolding wordsAfter
 end-from h ws m =
     let z : 0 % blockOf h ≡ 0 = zero-mod (blockOf h) in
-    let o : List ℕ = replicate places 0 in
+    let o : List ℕ = replicate largestBlock 0 in
     let C = describe h .core in
     end-after (from h ws) m refl
     ∙ ap (λ (k : ℕ). keep (describe h) (wordsOf h ws ((take k o ++ m) ++ padding C (0 + length m)))) z

@@ -1,4 +1,4 @@
--- Work in pieces opened, for this crate's own proofs alone: the definitions as the code goes. Assumes nothing.
+-- Proved: work in pieces opened, for this crate's own proofs alone: the definitions as the code goes. Assumes nothing.
 use mathlib.Core.Path.{_≡_, refl, ap, _∙_}
 use mathlib.Core.Bool.{true, false}
 use mathlib.Core.List.{List, [], _++_}
@@ -19,16 +19,16 @@ use Rattle.algorithm.specs.Refusals.{mostBytes}
 use Rattle.hash.specs.Description.{describe}
 use Rattle.hash.specs.Blocks.Laws.{left-short, words-short, left-filled, words-filled}
 use Rattle.hash.specs.Sha2.{step, keep}
-use Rattle.hash.specs.State.{places, heldOf, waitingOf, fit, wordsOf, lastWords, soundOf, freshOf, zeroState, afterOf, endOf}
+use Rattle.hash.specs.State.{largestBlock, waitingCount, waitingOf, fit, wordsOf, lastWords, soundOf, freshOf, zeroState, afterOf, endOf}
 use Rattle.hash.specs.State.Laws.{waiting-length, sound-zeros}
 use Rattle.hash.specs.Inside.{Fills, withWaiting, onwardOf}
 use Rattle.hash.specs.declared.state.State.{State}
 
-pub fresh-is : (h : Hash) → freshOf h ≡ record { hash = h; words = describe h .first; count = 0; waiting = replicate places 0 }
+pub fresh-is : (h : Hash) → freshOf h ≡ record { hash = h; words = describe h .first; count = 0; waiting = replicate largestBlock 0 }
 unfolding freshOf
 fresh-is h = refl
 
-pub zero-is : zeroState ≡ record { hash = Sha256; words = replicate 8 0; count = 0; waiting = replicate places 0 }
+pub zero-is : zeroState ≡ record { hash = Sha256; words = replicate 8 0; count = 0; waiting = replicate largestBlock 0 }
 unfolding zeroState
 zero-is = refl
 
@@ -42,41 +42,41 @@ module _ (s : State) where
   unfolding soundOf
   unsound-count h = rw (lt-leb (s .count) mostBytes h)
 
-  pub unsound-waiting : s .count ≤ mostBytes → allZero (drop (heldOf s) (s .waiting)) ≡ false → soundOf s ≡ false
+  pub unsound-waiting : s .count ≤ mostBytes → allZero (drop (waitingCount s) (s .waiting)) ≡ false → soundOf s ≡ false
   unfolding soundOf
   unsound-waiting h e = rw (le-leb (s .count) mostBytes h, e)
 
-  pub sound-by-words : s .count ≤ mostBytes → allZero (drop (heldOf s) (s .waiting)) ≡ true → soundOf s ≡ fit (s .hash) (s .words)
+  pub sound-by-words : s .count ≤ mostBytes → allZero (drop (waitingCount s) (s .waiting)) ≡ true → soundOf s ≡ fit (s .hash) (s .words)
   unfolding soundOf
   sound-by-words h e = rw (le-leb (s .count) mostBytes h, e)
 
 -- a piece where nothing waits
-pub straight-after : (s : State) (p : List ℕ) → heldOf s ≡ 0 → onwardOf (s .hash) (s .words) (s .count + length p) p ≡ afterOf s p
+pub straight-after : (s : State) (p : List ℕ) → waitingCount s ≡ 0 → onwardOf (s .hash) (s .words) (s .count + length p) p ≡ afterOf s p
 unfolding afterOf
 straight-after s p z =
     let w : waitingOf s ≡ [] = ap (λ (k : ℕ). take k (s .waiting)) z in
     rw w
 
 -- a piece that fills no block
-pub kept-after : (s : State) (p : List ℕ) → length (s .waiting) ≡ places → soundOf s ≡ true → heldOf s + length p < blockOf (s .hash)
-    → withWaiting s (paste (s .waiting) (heldOf s) p (length p)) (length p) ≡ afterOf s p
+pub appended-after : (s : State) (p : List ℕ) → length (s .waiting) ≡ largestBlock → soundOf s ≡ true → waitingCount s + length p < blockOf (s .hash)
+    → withWaiting s (paste (s .waiting) (waitingCount s) p (length p)) (length p) ≡ afterOf s p
 unfolding afterOf
-kept-after s p l h short =
-    let a : length (waitingOf s ++ p) ≡ heldOf s + length p = omega (arith, length-append (waitingOf s) p, waiting-length s l) in
+appended-after s p l h short =
+    let a : length (waitingOf s ++ p) ≡ waitingCount s + length p = omega (arith, length-append (waitingOf s) p, waiting-length s l) in
     let lt : length (waitingOf s ++ p) < blockOf (s .hash) = omega arith in
-    let z : allZero (drop (heldOf s + length p) (s .waiting)) ≡ true =
-    rw drop-drop at (every-drop (λ x. eqb x 0) (length p) (drop (heldOf s) (s .waiting)) (sound-zeros s h))
+    let z : allZero (drop (waitingCount s + length p) (s .waiting)) ≡ true =
+    rw drop-drop at (every-drop (λ x. eqb x 0) (length p) (drop (waitingCount s) (s .waiting)) (sound-zeros s h))
     in
-    let n : length (drop (heldOf s + length p) (s .waiting)) ≡ places - length (waitingOf s ++ p) =
-    omega (arith, length-drop (heldOf s + length p) (s .waiting))
+    let n : length (drop (waitingCount s + length p) (s .waiting)) ≡ largestBlock - length (waitingOf s ++ p) =
+    omega (arith, length-drop (waitingCount s + length p) (s .waiting))
     in
-    let e : drop (heldOf s + length p) (s .waiting) ≡ replicate (places - length (waitingOf s ++ p)) 0 =
-    all-zeros (drop (heldOf s + length p) (s .waiting)) z ∙ ap (λ (k : ℕ). replicate k 0) n
+    let e : drop (waitingCount s + length p) (s .waiting) ≡ replicate (largestBlock - length (waitingOf s ++ p)) 0 =
+    all-zeros (drop (waitingCount s + length p) (s .waiting)) z ∙ ap (λ (k : ℕ). replicate k 0) n
     in
     rw (words-short (blockOf (s .hash)) (step (describe (s .hash) .core)) (s .words) (waitingOf s ++ p) lt, left-short (blockOf (s .hash)) (waitingOf s ++ p) lt, take-length p, e)
 
 -- a piece that fills the block that waits, from the words after that block
-pub filled-after : (s : State) (at room : ℕ) (p topped : List ℕ) → length (s .waiting) ≡ places → Fills s at room p
+pub filled-after : (s : State) (at room : ℕ) (p topped : List ℕ) → length (s .waiting) ≡ largestBlock → Fills s at room p
     → topped ≡ wordsOf (s .hash) (s .words) (take at (s .waiting) ++ take room p)
     → onwardOf (s .hash) topped (s .count + length p) (take (length p - room) (drop room p)) ≡ afterOf s p
 unfolding afterOf
@@ -84,7 +84,7 @@ filled-after s at room p topped l h et =
     let B = blockOf (s .hash) in
     let d : take (length p - room) (drop room p) ≡ drop room p = part-all p (length p) room refl in
     let n : length (waitingOf s ++ take room p) ≡ B =
-    omega (arith, length-append (waitingOf s) (take room p), waiting-length s l, length-take-le room p (h .within), h .fills, h .held)
+    omega (arith, length-append (waitingOf s) (take room p), waiting-length s l, length-take-le room p (h .within), h .fills, h .waits)
     in
-    let t : topped ≡ wordsOf (s .hash) (s .words) (waitingOf s ++ take room p) = rw (h .held) at et in
+    let t : topped ≡ wordsOf (s .hash) (s .words) (waitingOf s ++ take room p) = rw (h .waits) at et in
     rw (d, t, ← words-filled B (step (describe (s .hash) .core)) (s .words) (waitingOf s) p room (block-positive (s .hash)) n, ← left-filled B (waitingOf s) p room (block-positive (s .hash)) n)

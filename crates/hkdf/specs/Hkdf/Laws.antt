@@ -1,4 +1,5 @@
--- Laws of HKDF: the key that a salt makes, the lengths, and that a shorter expand is the beginning of a longer one. Assumes nothing.
+-- Proved: laws of HKDF: the key that a salt makes, the lengths, and that a shorter expand is the beginning of a longer one. Assumes
+-- nothing.
 use mathlib.Core.Path.{_≡_, refl, sym, ap, _∙_}
 use mathlib.Core.List.{List, [], _∷_, _++_}
 use Prim.Native.Nat.{ℕ, zero, suc, _+_, _-_, _*_, _≤_}

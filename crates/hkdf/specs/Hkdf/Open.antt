@@ -1,4 +1,4 @@
--- HKDF opened, for this crate's own proofs alone. Assumes nothing.
+-- Proved: HKDF opened, for this crate's own proofs alone. Assumes nothing.
 use mathlib.Core.Path.{_≡_, refl}
 use mathlib.Core.List.{List}
 use Prim.Native.Nat.{ℕ}

@@ -1,4 +1,4 @@
--- What the inner hash's answer to a piece says of the keyed state, from what `hash` promises alone. Assumes nothing.
+-- Proved: what the inner hash's answer to a piece says of the keyed state, from what `hash` promises alone. Assumes nothing.
 use mathlib.Core.Path.{_≡_, sym, ap, _∙_}
 use mathlib.Core.Bool.{true}
 use mathlib.Core.List.{List}

@@ -1,4 +1,4 @@
--- Laws of the block form of a key and of the pads: their lengths, and which keys share a form. Assumes nothing.
+-- Proved: laws of the block form of a key and of the pads: their lengths, and which keys share a form. Assumes nothing.
 use mathlib.Core.Path.{_≡_, refl, sym, ap, ap₂, _∙_}
 use mathlib.Core.Logic.{_↔_}
 use mathlib.Core.List.{List, [], _∷_, _++_, append-assoc}
@@ -70,7 +70,7 @@ masked-injective x (c ∷ a) (d ∷ b) e =
     let u : bitXor c x ≡ bitXor d x = cc in
     ap₂ _∷_ (xor-injective x c d u) (masked-injective x a b t)
 
--- zeros behind bytes: how many there are, and that zeros more behind them play no part
+-- zeros after bytes: how many there are, and that zeros more after them play no part
 zeros-front : (n p : ℕ) (l : List ℕ) → length l ≤ n → take n ((l ++ replicate p 0) ++ replicate n 0) ≡ zerosTo n l
 zeros-front n p l h =
     let e : n ≡ length l + (n - length l) = omega arith in
@@ -118,17 +118,17 @@ module _ (h : Hash) where
   module _ (a b : List ℕ) (la : length a ≤ blockOf h) (lb : length b ≤ blockOf h) where
     form-zeros : formOf h a ≡ formOf h b → SameButZeros a b
     form-zeros e = record {
-      behind-a = blockOf h - length a;
-      behind-b = blockOf h - length b;
+      after-a = blockOf h - length a;
+      after-b = blockOf h - length b;
       same = sym (form-short a la) ∙ e ∙ form-short b lb;
     }
 
     zeros-form : SameButZeros a b → formOf h a ≡ formOf h b
     zeros-form s =
         form-short a la
-        ∙ sym (zeros-front (blockOf h) (s .behind-a) a la)
+        ∙ sym (zeros-front (blockOf h) (s .after-a) a la)
         ∙ ap (λ (r : List ℕ). take (blockOf h) (r ++ replicate (blockOf h) 0)) (s .same)
-        ∙ zeros-front (blockOf h) (s .behind-b) b lb
+        ∙ zeros-front (blockOf h) (s .after-b) b lb
         ∙ sym (form-short b lb)
 
     pub forms-same : formOf h a ≡ formOf h b ↔ SameButZeros a b

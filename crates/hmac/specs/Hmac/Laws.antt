@@ -1,4 +1,4 @@
--- Laws of HMAC and of its tags: their lengths and beginnings, and what keys and messages may share. Assumes nothing.
+-- Proved: laws of HMAC and of its tags: their lengths and beginnings, and what keys and messages may share. Assumes nothing.
 use mathlib.Core.Path.{_≡_, sym, ap, ap₂, _∙_}
 use mathlib.Core.Logic.{_↔_}
 use mathlib.Core.List.{List, _++_}

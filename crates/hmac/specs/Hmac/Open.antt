@@ -1,4 +1,4 @@
--- HMAC opened, for this crate's own proofs alone. Assumes nothing.
+-- Proved: HMAC opened, for this crate's own proofs alone. Assumes nothing.
 use mathlib.Core.Path.{_≡_, refl}
 use mathlib.Core.List.{List, _++_}
 use Prim.Native.Nat.{ℕ}

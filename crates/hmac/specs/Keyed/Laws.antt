@@ -1,4 +1,4 @@
--- Laws of work in pieces under a key, for the layers above: bytes cut anywhere lead to one keyed state, bytes keep it sound and are
+-- Proved: laws of work in pieces under a key, for the layers above: bytes cut anywhere lead to one keyed state, bytes keep it sound and are
 -- counted, and a start that took a message ends in the message's full tag. Assumes nothing.
 use mathlib.Core.Path.{_≡_, refl, sym, ap, subst, _∙_}
 use mathlib.Core.Bool.{Bool, true, false, _&&_, and-false}
@@ -16,7 +16,7 @@ use Rattle.algorithm.specs.Hashes.{blockOf, sizeOf}
 use Rattle.algorithm.specs.Refusals.{mostBytes}
 use Rattle.hash.specs.declared.state.State.{State}
 use Rattle.hash.specs.Digest.{digestOf}
-use Rattle.hash.specs.State.{places, heldOf, soundOf, Held, freshOf, afterOf, endOf}
+use Rattle.hash.specs.State.{largestBlock, waitingCount, soundOf, Held, freshOf, afterOf, endOf}
 use Rattle.hash.specs.State.Laws.{sound-zeros, after-hash, after-count, after-append, after-nothing, after-held, fresh-held, fresh-hash, fresh-count, end-length, end-fresh}
 use Rattle.algorithm.specs.Hashes.Laws.{block-most, digest-fits-block}
 use Rattle.hmac.specs.Form.{innerPad, outerPad}
@@ -45,18 +45,18 @@ module _ (k : Keyed) (h : soundKeyed k ≡ true) where
 -- both states of a keyed one
 module _ (k : Keyed) (h : HeldKeyed k) where
   pub inner-held : Held (innerOf k)
-  inner-held = record { eight = h .eight; wide = h .wide; sound = sound-inner k (h .sound) }
+  inner-held = record { eight = h .eight; waiting-size = h .waiting-size; sound = sound-inner k (h .sound) }
 
   pub outer-held : Held (outerOf k)
-  outer-held = record { eight = h .outer-eight; wide = refl; sound = sound-outer k (h .sound) }
+  outer-held = record { eight = h .outer-eight; waiting-size = refl; sound = sound-outer k (h .sound) }
 
 -- a state that has taken exactly a block keeps nothing waiting
 at-block : (s : State) → Held s → s .count ≡ blockOf (s .hash)
-    → _≡_ {A = State} (record { hash = s .hash; words = s .words; count = blockOf (s .hash); waiting = replicate places 0 }) s
+    → _≡_ {A = State} (record { hash = s .hash; words = s .words; count = blockOf (s .hash); waiting = replicate largestBlock 0 }) s
 at-block s h e =
-    let z : heldOf s ≡ 0 = ap (λ (n : ℕ). n % blockOf (s .hash)) e ∙ mod-self (blockOf (s .hash)) in
+    let z : waitingCount s ≡ 0 = ap (λ (n : ℕ). n % blockOf (s .hash)) e ∙ mod-self (blockOf (s .hash)) in
     let w : allZero (s .waiting) ≡ true = ap (λ (n : ℕ). allZero (drop n (s .waiting))) (sym z) ∙ sound-zeros s (h .sound) in
-    let v : s .waiting ≡ replicate places 0 = all-zeros (s .waiting) w ∙ ap (λ (n : ℕ). replicate n 0) (h .wide) in
+    let v : s .waiting ≡ replicate largestBlock 0 = all-zeros (s .waiting) w ∙ ap (λ (n : ℕ). replicate n 0) (h .waiting-size) in
     rw (v, e)
 
 module _ (h : Hash) (pad : List ℕ) (e : length pad ≡ blockOf h) where
@@ -77,7 +77,7 @@ outer-fresh h key =
     let s : State = afterOf (freshOf h) (outerPad h key) in
     let g : s .hash ≡ h = padded-hash h (outerPad h key) (outer-length h key) in
     let i : afterOf (freshOf h) (innerPad h key) .hash ≡ h = padded-hash h (innerPad h key) (inner-length h key) in
-    ap (λ (x : Hash). record { hash = x; words = s .words; count = blockOf x; waiting = replicate places 0 }) (i ∙ sym g)
+    ap (λ (x : Hash). record { hash = x; words = s .words; count = blockOf x; waiting = replicate largestBlock 0 }) (i ∙ sym g)
     ∙ at-block s (padded-held h (outerPad h key) (outer-length h key)) (padded-count h (outerPad h key) (outer-length h key) ∙ ap blockOf (sym g))
 
 pub inner-fresh : (h : Hash) (key : List ℕ) → innerOf (freshKeyed h key) ≡ afterOf (freshOf h) (innerPad h key)
@@ -90,7 +90,7 @@ unfolding soundKeyed
 held-keyed k i o b =
     record {
       eight = i .eight;
-      wide = i .wide;
+      waiting-size = i .waiting-size;
       outer-eight = o .eight;
       sound = rw (i .sound, o .sound) (le-leb (blockOf (k .hash)) (k .count) b);
     }
@@ -134,7 +134,7 @@ module _ (k : Keyed) (m : List ℕ) where
 
   pub keyed-after-outer : outerOf (afterKeyed k m) ≡ outerOf k
   unfolding afterKeyed
-  keyed-after-outer = ap (λ (x : Hash). record { hash = x; words = k .outer; count = blockOf x; waiting = replicate places 0 }) (after-hash (innerOf k) m)
+  keyed-after-outer = ap (λ (x : Hash). record { hash = x; words = k .outer; count = blockOf x; waiting = replicate largestBlock 0 }) (after-hash (innerOf k) m)
 
   -- bytes that fit the limit keep a keyed state sound
   pub keyed-after-held : HeldKeyed k → k .count + length m ≤ mostBytes → HeldKeyed (afterKeyed k m)
@@ -145,7 +145,7 @@ module _ (k : Keyed) (m : List ℕ) where
       (omega (arith, keyed-after-count, ap blockOf keyed-after-hash, sound-block k (h .sound)))
 
 -- bytes cut anywhere lead to one keyed state
-pub keyed-after-append : (k : Keyed) (m n : List ℕ) → length (k .waiting) ≡ places → afterKeyed (afterKeyed k m) n ≡ afterKeyed k (m ++ n)
+pub keyed-after-append : (k : Keyed) (m n : List ℕ) → length (k .waiting) ≡ largestBlock → afterKeyed (afterKeyed k m) n ≡ afterKeyed k (m ++ n)
 unfolding afterKeyed
 keyed-after-append k m n w = ap (λ (s : State). joined s (k .outer)) (after-append (innerOf k) m w n)
 
@@ -170,11 +170,11 @@ full-fresh h key m =
     let inner : List ℕ = innerPad h key in
     let outer : List ℕ = outerPad h key in
     let d : endOf (innerOf (afterKeyed (freshKeyed h key) m)) ≡ digestOf h (inner ++ m) =
-    ap endOf (keyed-after-inner (freshKeyed h key) m ∙ ap (λ (s : State). afterOf s m) (inner-fresh h key) ∙ after-append (freshOf h) inner (fresh-held h .wide) m)
+    ap endOf (keyed-after-inner (freshKeyed h key) m ∙ ap (λ (s : State). afterOf s m) (inner-fresh h key) ∙ after-append (freshOf h) inner (fresh-held h .waiting-size) m)
     ∙ end-fresh h (inner ++ m)
     in
     let o : outerOf (afterKeyed (freshKeyed h key) m) ≡ afterOf (freshOf h) outer = keyed-after-outer (freshKeyed h key) m ∙ outer-fresh h key in
     (λ i. endOf (afterOf (o i) (d i)))
-    ∙ ap endOf (after-append (freshOf h) outer (fresh-held h .wide) (digestOf h (inner ++ m)))
+    ∙ ap endOf (after-append (freshOf h) outer (fresh-held h .waiting-size) (digestOf h (inner ++ m)))
     ∙ end-fresh h (outer ++ digestOf h (inner ++ m))
     ∙ sym (hmac-is h key m)

@@ -1,4 +1,4 @@
--- Work in pieces under a key opened, for this crate's own proofs alone: the definitions as the code goes. Assumes nothing.
+-- Proved: work in pieces under a key opened, for this crate's own proofs alone: the definitions as the code goes. Assumes nothing.
 use mathlib.Core.Path.{_≡_, refl}
 use mathlib.Core.Bool.{true, false}
 use mathlib.Core.List.{List}
@@ -8,12 +8,12 @@ use lib.ListN.{replicate}
 use Rattle.algorithm.specs.declared.hashes.Hash.{Hash}
 use Rattle.algorithm.specs.declared.hashes.Hash.the-variants.{Sha256}
 use Rattle.algorithm.specs.Hashes.{blockOf}
-use Rattle.hash.specs.State.{places, soundOf, freshOf, afterOf, endOf}
+use Rattle.hash.specs.State.{largestBlock, soundOf, freshOf, afterOf, endOf}
 use Rattle.hmac.specs.Form.{innerPad, outerPad}
 use Rattle.hmac.specs.Keyed.{innerOf, outerOf, joined, soundKeyed, freshKeyed, zeroKeyed, afterKeyed, fullTag}
 use Rattle.hmac.specs.declared.keyed.Keyed.{Keyed}
 
-pub zero-is : zeroKeyed ≡ record { hash = Sha256; words = replicate 8 0; count = 0; waiting = replicate places 0; outer = replicate 8 0 }
+pub zero-is : zeroKeyed ≡ record { hash = Sha256; words = replicate 8 0; count = 0; waiting = replicate largestBlock 0; outer = replicate 8 0 }
 unfolding zeroKeyed
 zero-is = refl
 

@@ -1,5 +1,5 @@
--- Laws of a run of pieces under a key: those that fit lead to the keyed state after their bytes in one, refused ones change nothing,
--- and from a start tag and verify answer what the one-piece calls answer for the bytes taken. Assumes nothing.
+-- Proved: laws of a run of pieces under a key: those that fit lead to the keyed state after their bytes in one, refused ones change
+-- nothing, and from a start tag and verify answer what the one-piece calls answer for the bytes taken. Assumes nothing.
 use mathlib.Core.Path.{_≡_, sym, ap, subst, _∙_}
 use mathlib.Core.Bool.{true}
 use mathlib.Core.List.{List}
@@ -29,7 +29,7 @@ taking = record {
   taken = λ k p h l. ap both (update-accepted k p (h .sound) l);
   too-long = λ k p h l. ap both (update-too-long k p (h .sound) l);
   after-nothing = keyed-after-nothing;
-  after-append = λ k p q h. keyed-after-append k p q (h .wide);
+  after-append = λ k p q h. keyed-after-append k p q (h .waiting-size);
   after-count = keyed-after-count;
   after-held = keyed-after-held;
 }
@@ -49,7 +49,7 @@ leads-after {k} (more p {m = m} {f = f} e rest) h l =
     let first : f .keyed ≡ afterKeyed k p = piece-after k p h (omega arith) e in
     let held : HeldKeyed (f .keyed) = subst HeldKeyed (sym first) (keyed-after-held k p h (omega arith)) in
     let count : f .keyed .count ≡ k .count + length p = ap (λ (x : Keyed). x .count) first ∙ keyed-after-count k p in
-    leads-after rest held (omega arith) ∙ ap (λ (x : Keyed). afterKeyed x m) first ∙ keyed-after-append k p m (h .wide)
+    leads-after rest held (omega arith) ∙ ap (λ (x : Keyed). afterKeyed x m) first ∙ keyed-after-append k p m (h .waiting-size)
 
 pub leads-held : {k last : Keyed} {m : List ℕ} → Leads k m last → HeldKeyed k → k .count + length m ≤ mostBytes → HeldKeyed last
 leads-held {k} {m = m} r h l = subst HeldKeyed (sym (leads-after r h l)) (keyed-after-held k m h l)

@@ -1,4 +1,4 @@
--- No second outcome: what meets the outcome predicate of a function, as its contract cites it, is one. Assumes nothing.
+-- Proved: no second outcome: what meets the outcome predicate of a function, as its contract cites it, is one. Assumes nothing.
 use mathlib.Core.Path.{_≡_, sym, _∙_}
 use mathlib.Core.Bool.{Bool}
 use mathlib.Core.List.{List}

@@ -1,4 +1,4 @@
--- Laws of the beginning of one list written over that of another. Assumes nothing.
+-- Proved: laws of the beginning of one list written over that of another. Assumes nothing.
 use mathlib.Core.Path.{_≡_, refl, ap}
 use mathlib.Core.List.{List, [], _∷_, _++_, append-nil}
 use Prim.Native.Nat.{ℕ, zero, suc, _+_, _≤_, _<_}

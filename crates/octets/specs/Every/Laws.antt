@@ -1,4 +1,4 @@
--- Laws of a test of every element, and of zeros. Assumes nothing.
+-- Proved: laws of a test of every element, and of zeros. Assumes nothing.
 use mathlib.Core.Path.{_≡_, refl, sym, ap, _∙_}
 use mathlib.Core.Bool.{Bool, true, false, _&&_, true≢false, and-true, and-assoc}
 use mathlib.Core.List.{List, [], _∷_, _++_}

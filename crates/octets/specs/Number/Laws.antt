@@ -1,4 +1,4 @@
--- Laws of numbers as bytes. Assumes nothing.
+-- Proved: laws of numbers as bytes. Assumes nothing.
 use mathlib.Core.Path.{_≡_, refl, sym, ap, ap₂, _∙_}
 use mathlib.Core.Bool.{true}
 use mathlib.Core.List.{List, [], _∷_, _++_, append-assoc, append-nil}
@@ -51,7 +51,7 @@ bytes-zero (suc k) =
     ∙ replicate-append-replicate k 1 0
     ∙ ap (λ (n : ℕ). replicate n 0) (add-one k)
 
--- the number of two lists, one behind the other
+-- the number of two lists, one after the other
 onto-append : (n : ℕ) (xs ys : List ℕ) → onto n (xs ++ ys) ≡ onto (onto n xs) ys
 unfolding onto
 onto-append n [] ys = refl

@@ -1,4 +1,4 @@
--- Laws of comparing. Assumes nothing.
+-- Proved: laws of comparing. Assumes nothing.
 use mathlib.Core.Path.{_≡_, refl, sym, ap, _∙_}
 use mathlib.Core.Bool.{Bool, true, false, _&&_, false≢true}
 use mathlib.Core.List.{List, [], _∷_}

@@ -1,4 +1,4 @@
--- Laws of a sum that knows whether it passed 2^64 - 1. Assumes nothing.
+-- Proved: laws of a sum that knows whether it passed 2^64 - 1. Assumes nothing.
 use mathlib.Core.Path.{_≡_, refl}
 use mathlib.Core.Bool.{Bool, true, false, cond, _||_}
 use Prim.Native.Nat.{ℕ, _+_, _-_}

@@ -1,4 +1,4 @@
--- Laws of bytes in a longer buffer of zeros. Assumes nothing.
+-- Proved: laws of bytes in a longer buffer of zeros. Assumes nothing.
 use mathlib.Core.Path.{_≡_, sym, ap, _∙_}
 use mathlib.Core.List.{List, _++_, append-assoc}
 use Prim.Native.Nat.{ℕ, _+_, _-_, _≤_}
@@ -18,7 +18,7 @@ over-zeros n l h =
 pub zeros-length : (n : ℕ) (l : List ℕ) → length l ≤ n → length (zerosTo n l) ≡ n
 zeros-length n l h = omega (arith, length-append l (replicate (n - length l) 0), length-replicate {A = ℕ} (n - length l) 0)
 
--- zeros behind zeros
+-- zeros after zeros
 pub zeros-twice : (n k : ℕ) (l : List ℕ) → length l ≤ k → k ≤ n → zerosTo n (zerosTo k l) ≡ zerosTo n l
 zeros-twice n k l h g =
     let e : (k - length l) + (n - length (zerosTo k l)) ≡ n - length l = omega (arith, zeros-length k l h) in
@@ -32,7 +32,7 @@ take-zeros n t l h = take-append-le t l (replicate (n - length l) 0) h
 pub take-whole : (n t : ℕ) (l : List ℕ) → length l ≡ t → take t (zerosTo n l) ≡ l
 take-whole n t l e = ap (λ (k : ℕ). take k (zerosTo n l)) (sym e) ∙ take-append-seam l (replicate (n - length l) 0)
 
--- the beginning of bytes with zeros behind them, over a buffer that it fills
+-- the beginning of bytes with zeros after them, over a buffer that it fills
 pub over-buffer : (n t : ℕ) (l out : List ℕ) → length out ≡ t → t ≤ length l → length l ≤ n → over (zerosTo n l) out ≡ take t l
 over-buffer n t l out e h g =
     over-long (zerosTo n l) out (omega (arith, zeros-length n l g))

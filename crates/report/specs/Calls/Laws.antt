@@ -1,4 +1,5 @@
--- Laws of the calls, for the layers above and for this crate's proofs: what each answers once its checks are known. Assumes nothing.
+-- Proved: laws of the calls, for the layers above and for this crate's proofs: what each answers once its checks are known. Assumes
+-- nothing.
 use mathlib.Core.Path.{_≡_, refl, sym, ap, subst, _∙_}
 use mathlib.Core.Logic.{_↔_}
 use mathlib.Core.Bool.{Bool, true, false, cond, _||_, true≢false}
@@ -102,13 +103,13 @@ module _ (s : List ℕ) where
 here-shift : (k at : ℕ) (l : List ℕ) → siteHere (drop k l) at ≡ siteHere l (k + at)
 here-shift k at l =
     let size : getD (drop k l) at 0 ≡ getD l (k + at) 0 = getD-drop k l at 0 in
-    let behind : (n : ℕ) (j : ℕ) → k + n ≡ j → drop n (drop k l) ≡ drop j l = λ n j e. drop-drop n k l ∙ ap (λ (i : ℕ). drop i l) e in
-    let label = behind (at + 1) (k + at + 1) (omega arith) in
-    let live = behind (at + getD (drop k l) at 0 + 1) (k + at + getD l (k + at) 0 + 1) (omega arith) in
-    let blocks = behind (at + getD (drop k l) at 0 + 9) (k + at + getD l (k + at) 0 + 9) (omega arith) in
+    let after : (n : ℕ) (j : ℕ) → k + n ≡ j → drop n (drop k l) ≡ drop j l = λ n j e. drop-drop n k l ∙ ap (λ (i : ℕ). drop i l) e in
+    let label = after (at + 1) (k + at + 1) (omega arith) in
+    let live = after (at + getD (drop k l) at 0 + 1) (k + at + getD l (k + at) 0 + 1) (omega arith) in
+    let blocks = after (at + getD (drop k l) at 0 + 9) (k + at + getD l (k + at) 0 + 9) (omega arith) in
     λ i. record { label = take (size i) (label i); live = number (take 8 (live i)); blocks = number (take 4 (blocks i)) }
 
--- the first one, and one behind it
+-- the first one, and one after it
 module _ (size : ℕ) (l : List ℕ) (room : size + 12 ≤ length l) (xs : List Site) where
   label-size : length (take size l) ≡ size
   label-size = length-take-le size l (omega arith)
@@ -152,7 +153,7 @@ stands (suc n) (size ∷ l) e (suc i) h =
     let rest = stands n (drop (size + 12) l) (f .rest) i (omega arith) in
     subst (λ (w : ℕ × List Site). Stands (size ∷ l) (w .1) (suc i)) (sym (f .is)) (later-stands size l (f .room) _ i rest)
 
--- the sites of a body stand in it behind its first 45 bytes
+-- the sites of a body stand in it after its first 45 bytes
 module _ (body : List ℕ) (e : bodySites body .0 ≡ done) (i : ℕ) (h : i < numberAt body 43 2) {at : ℕ} (a : at ≡ 45 + before (bodySites body .1) i) where
   byte : getD (drop 45 body) (before (bodySites body .1) i) 0 ≡ getD body at 0
   byte = getD-drop 45 body (before (bodySites body .1) i) 0 ∙ ap (λ (k : ℕ). getD body k 0) (sym a)

@@ -1,4 +1,4 @@
--- No second outcome: what meets the outcome predicate of a call, as its contract cites it, is one. Assumes nothing.
+-- Proved: no second outcome: what meets the outcome predicate of a call, as its contract cites it, is one. Assumes nothing.
 use mathlib.Core.Path.{_≡_}
 use mathlib.Core.List.{List}
 use Prim.Native.Nat.{ℕ}

@@ -1,4 +1,4 @@
--- Laws of the fingerprint's message: two well-formed reports share it exactly when they agree in every field but the send time.
+-- Proved: laws of the fingerprint's message: two well-formed reports share it exactly when they agree in every field but the send time.
 -- Assumes nothing.
 use mathlib.Core.Path.{_≡_, refl, sym, ap, ap₂, _∙_}
 use mathlib.Core.Logic.{_↔_}

@@ -1,4 +1,4 @@
--- Laws of reading a report: what a report that passes has, what its sites are, and that its fields spell the bytes before its tag.
+-- Proved: laws of reading a report: what a report that passes has, what its sites are, and that its fields spell the bytes before its tag.
 -- Assumes nothing.
 use mathlib.Core.Path.{_≡_, refl, sym, ap, _∙_}
 use mathlib.Core.Bool.{Bool, true, false, cond, _&&_}
@@ -133,7 +133,7 @@ module _ (s : List ℕ) where
   pub passed : firstFailing (readChecks s) ≡ done → Passed s
   passed e = all-passed (done-passes (readChecks s) (read-refusing s) e)
 
-  -- and such a report is let pass: what is checked behind reading decides
+  -- and such a report is let pass: what is checked after reading decides
   pub passes-then : Passed s → (cs : List Check) → firstFailing (readChecks s ++ cs) ≡ firstFailing cs
   passes-then p cs =
       rw (
@@ -169,7 +169,7 @@ module _ (s : List ℕ) where
     unfolding readOf
     well-formed-passed = passed (w .reads)
 
-    -- the tag starts behind the number of sites, and in the report
+    -- the tag starts after the number of sites, and in the report
     pub tag-low : 45 ≤ tagStart s
     tag-low = omega (arith, well-formed-passed .tag-fits)
 
@@ -180,7 +180,7 @@ module _ (s : List ℕ) where
     spelled : (at n end : ℕ) → at + n ≡ end → end ≤ 45 → bytes n (numberAt s at n) ++ slice end (tagStart s) s ≡ slice at (tagStart s) s
     spelled at n end e h = number-between s (tagStart s) at n end (w .bytes) e (omega (arith, tag-low)) tag-high
 
-    -- the fields behind the send time spell the bytes behind it
+    -- the fields after the send time spell the bytes after it
     pub after-sent : afterSent (fieldsOf s) ≡ slice 34 (tagStart s) s
     after-sent =
         let p : Passed s = well-formed-passed in

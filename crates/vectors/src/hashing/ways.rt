@@ -28,7 +28,7 @@ fn in_pieces(state: State, message: &[u8], size: usize) -> State
     s
 }
 
-// In two pieces, cut at a place, or behind the last byte where the place is past it.
+// In two pieces, cut at a place, or after the last byte where the place is past it.
 fn cut(state: State, message: &[u8], place: usize) -> State {
     let at = least(place, message.len());
     let first = hash::update(state, &message[0..at]);

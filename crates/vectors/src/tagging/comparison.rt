@@ -5,7 +5,7 @@ use crate::tagging::calls;
 use crate::tagging::inputs;
 use hmac::Keyed;
 
-// The length of the tag, how many bytes of the full tag (with a5 behind it) are presented, and how many first ones are unchanged.
+// The length of the tag, how many bytes of the full tag (with a5 after it) are presented, and how many first ones are unchanged.
 const ROWS: [[usize; 3]; 32] = [
     [0, 0, 0],
     [1, 1, 1],

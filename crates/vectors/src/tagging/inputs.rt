@@ -30,7 +30,7 @@ pub(crate) fn with_last(keyed: Keyed, byte: u8) -> Keyed {
     }
 }
 
-// The full tag of a keyed state with a5 behind it, and a5 everywhere where it is refused.
+// The full tag of a keyed state with a5 after it, and a5 everywhere where it is refused.
 pub(crate) fn full_tag(keyed: Keyed) -> [u8; 66] {
     let mut out = [0xa5u8; 66];
     let hash = keyed.hash;
@@ -41,7 +41,7 @@ pub(crate) fn full_tag(keyed: Keyed) -> [u8; 66] {
     out
 }
 
-// A tag of a message, of some length, with a5 behind it, and a5 everywhere where it is refused.
+// A tag of a message, of some length, with a5 after it, and a5 everywhere where it is refused.
 pub(crate) fn tag_of(number: u32, key: &[u8], message: &[u8], size: usize) -> [u8; 66] {
     let mut out = [0xa5u8; 66];
     if size <= 66 {

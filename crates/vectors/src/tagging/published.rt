@@ -36,7 +36,7 @@ fn presented(number: u32, key: &[u8], message: &[u8], tag: &[u8], size: usize) {
     }
 }
 
-// A piece for a state that a byte behind those that wait makes unsound, and what came back of it with that byte zero again.
+// A piece for a state that a byte after those that wait makes unsound, and what came back of it with that byte zero again.
 fn refused(keyed: Keyed, piece: &[u8]) -> Keyed {
     let unsound = inputs::with_last(keyed, 1);
     let fed = hmac::update(unsound, piece);

@@ -12,16 +12,16 @@ returns : tie.Need-returns
 returns c =
     let entry = c .before .before .before .before .args in
     let started = c .before .start .ensures in
-    rw started (start-refuses (entry .number) (now (entry .message)) (now (entry .out)) (rw started at (c .if1 .taken)))
+    rw started (start-refuses (entry .hash-number) (now (entry .message)) (now (entry .out)) (rw started at (c .if1 .taken)))
 
 returns-2 : tie.Need-returns-2
 returns-2 c =
     let entry = c .before .before .before .before .before .before .before .args in
     let started = c .before .before .before .before .start .ensures in
     let fed = c .before .update in
-    let answer : written (fed .result .number) (now (entry .out)) ≡ digestAnswer (entry .number) (now (entry .message)) (now (entry .out)) =
+    let answer : written (fed .result .number) (now (entry .out)) ≡ digestAnswer (entry .hash-number) (now (entry .message)) (now (entry .out)) =
     rw (fed .ensures, started)
-    (piece-refuses (entry .number) (now (entry .message)) (now (entry .out)) (rw started at (c .before .before .before .if1 .left))
+    (piece-refuses (entry .hash-number) (now (entry .message)) (now (entry .out)) (rw started at (c .before .before .before .if1 .left))
     (rw (fed .ensures, started) at (c .if2 .taken)))
     in
     answer
@@ -31,9 +31,9 @@ returns-3 c =
     let entry = c .before .before .before .before .before .before .before .before .before .before .before .before .args in
     let started = c .before .before .before .before .before .before .before .before .before .start .ensures in
     let fed = c .before .before .before .before .before .before .update in
-    let answer : finishOf (fed .result .state) (now (entry .out)) ≡ digestAnswer (entry .number) (now (entry .message)) (now (entry .out)) =
+    let answer : finishOf (fed .result .state) (now (entry .out)) ≡ digestAnswer (entry .hash-number) (now (entry .message)) (now (entry .out)) =
     rw (fed .ensures, started)
-    (end-answers (entry .number) (now (entry .message)) (now (entry .out))
+    (end-answers (entry .hash-number) (now (entry .message)) (now (entry .out))
     (rw started at (c .before .before .before .before .before .before .before .before .if1 .left))
     (rw (fed .ensures, started) at (c .before .before .before .before .before .if2 .left)))
     in

@@ -1,4 +1,4 @@
--- `hash::pieces::left_over`: what stands behind the whole blocks, over zeros. Assumes nothing.
+-- `hash::pieces::left_over`: what stands after the whole blocks, over zeros. Assumes nothing.
 use mathlib.Core.Path.{_∙_}
 use native.Mathlib.Nat.{mod-le}
 use native.Mathlib.Omega.{arith}

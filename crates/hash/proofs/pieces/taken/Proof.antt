@@ -5,29 +5,29 @@ use lib.ListN.{length, length-map}
 use borrow.Author.Needs.{needs}
 use denote.Ref.{now}
 use Rattle.algorithm.specs.Hashes.Laws.{block-most}
-use Rattle.hash.specs.State.Laws.{held-less, sound-words}
-use Rattle.hash.specs.State.Open.{kept-after, straight-after}
+use Rattle.hash.specs.State.Laws.{waiting-less, sound-words}
+use Rattle.hash.specs.State.Open.{appended-after, straight-after}
 use Rattle.hash.proofs.pieces.taken.Statement.{statement}
 use Rattle.hash.proofs.pieces.taken.Tie as tie
 
 sub-room : tie.Need-sub-room
-sub-room c = omega (arith, c .held .ensures, c .before .block-size .ensures, held-less (c .before .before .before .args .state))
+sub-room c = omega (arith, c .waiting-count .ensures, c .before .block-size .ensures, waiting-less (c .before .before .before .args .state))
 
-kept-requires : tie.Need-kept-requires
-kept-requires c κs =
+appended-requires : tie.Need-appended-requires
+appended-requires c κs =
     let start = c .before .before .before .before in
     let s = start .args .state in
-    omega (arith, c .before .held .ensures, c .before .before .block-size .ensures, held-less s, block-most (s .hash), start .pre .fits)
+    omega (arith, c .before .waiting-count .ensures, c .before .before .block-size .ensures, waiting-less s, block-most (s .hash), start .pre .fits)
 
 returns : tie.Need-returns
 returns c =
     let start = c .before .before .before .before .before in
     let s = start .args .state in
-    let held = c .before .before .held .ensures in
+    let waits = c .before .before .waiting-count .ensures in
     let w : length (s .waiting) ≡ 128 = sym (length-map (s .waiting) (λ v. v)) ∙ start .good .0 .1 .1 .1 .1 .1 .0 .1 .0 .1 in
-    c .kept .ensures
-    ∙ rw held
-    (kept-after s (start .args .piece .now) w (start .pre .sound) (omega (arith, held, c .before .before .before .block-size .ensures, held-less s)))
+    c .appended .ensures
+    ∙ rw waits
+    (appended-after s (start .args .piece .now) w (start .pre .sound) (omega (arith, waits, c .before .before .before .block-size .ensures, waiting-less s)))
 
 onward-requires : tie.Need-onward-requires
 onward-requires c κs =
@@ -38,19 +38,19 @@ returns-2 : tie.Need-returns-2
 returns-2 c =
     let start = c .before .before .before .before .before .before .before .before in
     c .onward .ensures
-    ∙ straight-after (start .args .state) (now (start .args .piece)) (sym (c .before .before .before .before .before .held .ensures) ∙ c .before .before .before .if2 .taken)
+    ∙ straight-after (start .args .state) (now (start .args .piece)) (sym (c .before .before .before .before .before .waiting-count .ensures) ∙ c .before .before .before .if2 .taken)
 
 filled-requires : tie.Need-filled-requires
 filled-requires c κs =
     let start = c .before .before .before .before .before in
     let s = start .args .state in
-    let a = c .before .before .held .ensures in
+    let a = c .before .before .waiting-count .ensures in
     let b = c .before .before .before .block-size .ensures in
-    let l = held-less s in
-    record { held = a; fills = omega arith; within = omega arith; fits = start .pre .fits; words = sound-words s (start .pre .sound) }
+    let l = waiting-less s in
+    record { waits = a; fills = omega arith; within = omega arith; fits = start .pre .fits; words = sound-words s (start .pre .sound) }
 
 pub taken-spec : {M : Type 1} → statement M
 taken-spec =
     tie.close
-    (tie.spec (λ c κs. search needs) (λ c κs. search needs) sub-room kept-requires returns (λ c. search needs) onward-requires returns-2 filled-requires
+    (tie.spec (λ c κs. search needs) (λ c κs. search needs) sub-room appended-requires returns (λ c. search needs) onward-requires returns-2 filled-requires
     (λ c. search needs))

@@ -1,4 +1,4 @@
--- `hash::pieces::topped_up`: the waiting bytes with the piece's first ones behind them. Assumes nothing.
+-- `hash::pieces::topped_up`: the waiting bytes with the piece's first ones after them. Assumes nothing.
 use mathlib.Core.Path.{_≡_, sym, ap, _∙_}
 use Prim.Native.Nat.{_+_}
 use native.Mathlib.Omega.{arith}

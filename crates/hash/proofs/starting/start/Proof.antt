@@ -12,13 +12,13 @@ use Rattle.hash.proofs.starting.start.Tie as tie
 
 returns : tie.Need-returns
 returns c =
-    let n = c .before .before .before .before .args .number in
-    ap (started unknownHash) (c .zeros .ensures ∙ sym zero-is)
+    let n = c .before .before .before .before .args .hash-number in
+    ap (started unknownHash) (c .zero-state .ensures ∙ sym zero-is)
     ∙ sym (start-refused n (which-unknown n (c .before .before .before .which .ensures) (c .before .enum-told .given .1)))
 
 returns-2 : tie.Need-returns-2
 returns-2 c =
-    let n = c .before .before .before .before .before .args .number in
+    let n = c .before .before .before .before .before .args .hash-number in
     let hash = c .before .before .named .given .0 .0 in
     let known = which-is n (c .before .before .before .before .which .ensures) hash (c .before .before .named .given .1) in
     ap (started done) (c .fresh .ensures ∙ ap freshOf (sym (known .1))) ∙ sym (start-accepted n (known .0))

@@ -11,14 +11,14 @@ use Rattle.hkdf.proofs.expanding.expand.Tie as tie
 returns : tie.Need-returns
 returns c =
     let start = c .before .before .before .before .before .before in
-    let n = start .args .number in
+    let n = start .args .hash-number in
     sym (expand-unknown n (now (start .args .prk)) (now (start .args .info)) (now (start .args .out))
     (which-unknown n (c .before .before .which .ensures) (c .enum-told .given .1)))
 
 expand-for-requires : tie.Need-expand-for-requires
 expand-for-requires c κs =
     let named = c .before .before .before .named in
-    let known = which-is (c .before .before .before .before .before .before .before .before .before .args .number) (c .before .before .before .before .before .which .ensures) (named .given .0 .0) (named .given .1) in
+    let known = which-is (c .before .before .before .before .before .before .before .before .before .args .hash-number) (c .before .before .before .before .before .which .ensures) (named .given .0 .0) (named .given .1) in
     (known .0, c .before .digest-size .ensures ∙ ap sizeOf (sym (known .1)))
 
 pub expand-spec : {M : Type 1} → statement M

@@ -12,7 +12,7 @@ use Rattle.hkdf.proofs.expanding.expand_for.Tie as tie
 returns : tie.Need-returns
 returns c =
     let start = c .before .before .before .before in
-    let n = start .args .number in
+    let n = start .args .hash-number in
     let prk = now (start .args .prk) in
     let info = now (start .args .info) in
     let out = now (start .args .out) in
@@ -22,7 +22,7 @@ returns c =
 returns-2 : tie.Need-returns-2
 returns-2 c =
     let start = c .before .before .before .before .before in
-    let n = start .args .number in
+    let n = start .args .hash-number in
     let prk = now (start .args .prk) in
     let info = now (start .args .info) in
     let out = now (start .args .out) in
@@ -32,7 +32,7 @@ returns-2 c =
 returns-3 : tie.Need-returns-3
 returns-3 c =
     let start = c .before .before .before .before .before .before in
-    let n = start .args .number in
+    let n = start .args .hash-number in
     let prk = now (start .args .prk) in
     let info = now (start .args .info) in
     let out = now (start .args .out) in
@@ -42,7 +42,7 @@ returns-3 c =
 returns-4 : tie.Need-returns-4
 returns-4 c =
     let start = c .before .before .before .before .before .before .before in
-    let n = start .args .number in
+    let n = start .args .hash-number in
     let prk = now (start .args .prk) in
     let info = now (start .args .info) in
     let out = now (start .args .out) in
@@ -52,7 +52,7 @@ returns-4 c =
 returns-5 : tie.Need-returns-5
 returns-5 c =
     let start = c .before .before .before .before .before .before .before .before .before .before .before in
-    let n = start .args .number in
+    let n = start .args .hash-number in
     let prk = now (start .args .prk) in
     let info = now (start .args .info) in
     let out = now (start .args .out) in

@@ -31,7 +31,7 @@ record Inv (n : ℕ) (prk info out₀ : List ℕ) (size : ℕ) (out block : List
   pub place : at ≡ i * size
   pub near : at ≤ length out₀ + 64
   pub bound : i ≤ mostDigests
-  pub wide : length block ≡ 64
+  pub block-size : length block ≡ 64
   pub fits : filled ≤ 64
   pub last : take filled block ≡ stretch (hashOf n) prk info i
   pub is : out ≡ over (stretches (hashOf n) prk info i) out₀
@@ -48,7 +48,7 @@ start-requires c κs = c .before .before .before .pre .key
 loop-holds : tie.Need-loop-holds Inv-loop μ-loop
 loop-holds c =
     let start = c .before .before .before .before .before in
-    let h = hashOf (start .args .number) in
+    let h = hashOf (start .args .hash-number) in
     let prk = now (start .args .prk) in
     let info = now (start .args .info) in
     let out = now (start .args .out) in
@@ -62,7 +62,7 @@ loop-holds c =
       place = omega arith;
       near = omega arith;
       bound = search needs;
-      wide = search needs;
+      block-size = search needs;
       fits = search needs;
       last = sym (stretch-none h prk info);
       is = sym (ap (λ (l : List ℕ). over l out) (stretches-none h prk info) ∙ over-none out);
@@ -87,7 +87,7 @@ stretch-requires c κs =
     let start = c .before .before .before .before .before .before .before .before in
     let l = c .before .before .loop in
     let short : length (take (l .filled) (l .block)) ≤ 64 = omega (arith, length-take-le (l .filled) (l .block) (omega arith)) in
-    start-room (hashOf (start .args .number)) (now (start .args .prk)) (c .before .before .before .before .start .ensures) (take (l .filled) (l .block)) (now (start .args .info)) short (start .pre .short)
+    start-room (hashOf (start .args .hash-number)) (now (start .args .prk)) (c .before .before .before .before .start .ensures) (take (l .filled) (l .block)) (now (start .args .info)) short (start .pre .short)
 
 slice-aggregate-copy-prefix : tie.Need-slice-aggregate-copy-prefix Inv-loop μ-loop
 slice-aggregate-copy-prefix c =
@@ -97,7 +97,7 @@ slice-aggregate-copy-prefix c =
 loop-again : tie.Need-loop-again Inv-loop μ-loop
 loop-again c =
     let start = c .before .before .before .before .before .before .before .before .before .before .before .before .before .before in
-    let h = hashOf (start .args .number) in
+    let h = hashOf (start .args .hash-number) in
     let prk = now (start .args .prk) in
     let info = now (start .args .info) in
     let o = now (start .args .out) in
@@ -127,7 +127,7 @@ loop-again c =
       place = omega (arith, v .place, add-mul (l .i) 1 size);
       near = omega (arith, v .len);
       bound = omega arith;
-      wide = search needs;
+      block-size = search needs;
       fits = omega arith;
       last = kept;
       is = is;
@@ -136,7 +136,7 @@ loop-again c =
 returns : tie.Need-returns Inv-loop μ-loop
 returns c =
     let start = c .before .before .before .before .before .before .before in
-    let h = hashOf (start .args .number) in
+    let h = hashOf (start .args .hash-number) in
     let o = now (start .args .out) in
     let l = c .before .loop in
     let v = l .inv in

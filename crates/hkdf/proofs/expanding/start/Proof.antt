@@ -11,7 +11,7 @@ returns : tie.Need-returns
 returns c =
     let start = c .before .before .before in
     ap (λ (r : Started). r .keyed)
-    (c .before .start .ensures ∙ start-accepted (start .args .number) (now (start .args .prk)) (start .pre .known) (start .pre .fits))
+    (c .before .start .ensures ∙ start-accepted (start .args .hash-number) (now (start .args .prk)) (start .pre .known) (start .pre .fits))
 
 pub start-spec : {M : Type 1} → statement M
 start-spec = tie.close (tie.spec (λ c κs. search needs) returns)

@@ -17,7 +17,7 @@ use Rattle.hkdf.proofs.extracting.extract.Tie as tie
 returns : tie.Need-returns
 returns c =
     let start = c .before .before .before .before .before .before in
-    let n = start .args .number in
+    let n = start .args .hash-number in
     sym (extract-unknown n (now (start .args .salt)) (now (start .args .ikm)) (now (start .args .out))
     (which-unknown n (c .before .before .which .ensures) (c .enum-told .given .1)))
 
@@ -27,7 +27,7 @@ unsalted-requires c κs = omega (arith, c .before .before .digest-size .ensures,
 returns-2 : tie.Need-returns-2
 returns-2 c =
     let start = c .before .before .before .before .before .before .before .before .before .before .before .before .before in
-    let n = start .args .number in
+    let n = start .args .hash-number in
     let salt = now (start .args .salt) in
     let named = c .before .before .before .before .before .before .before .named in
     let known = which-is n (c .before .before .before .before .before .before .before .before .before .which .ensures) (named .given .0 .0) (named .given .1) in
@@ -39,7 +39,7 @@ returns-2 c =
 returns-3 : tie.Need-returns-3
 returns-3 c =
     let start = c .before .before .before .before .before .before .before .before .before .before .before .before .before in
-    let n = start .args .number in
+    let n = start .args .hash-number in
     let salt = now (start .args .salt) in
     let named = c .before .before .before .before .before .before .before .named in
     let known = which-is n (c .before .before .before .before .before .before .before .before .before .which .ensures) (named .given .0 .0) (named .given .1) in

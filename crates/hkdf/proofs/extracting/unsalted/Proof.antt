@@ -16,7 +16,7 @@ slice-aggregate-tag-message c =
 returns : tie.Need-returns
 returns c =
     let start = c .before .before .before .before .before .before .before in
-    zeros-tag (start .args .number) (now (start .args .ikm)) (start .args .size) (now (start .args .out)) (start .pre)
+    zeros-tag (start .args .hash-number) (now (start .args .ikm)) (start .args .size) (now (start .args .out)) (start .pre)
     (c .before .before .tag-message .ensures)
 
 pub unsalted-spec : {M : Type 1} → statement M

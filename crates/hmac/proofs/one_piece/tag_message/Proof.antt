@@ -9,7 +9,7 @@ use Rattle.hmac.proofs.one_piece.tag_message.Tie as tie
 returns : tie.Need-returns
 returns c =
     let start = c .before .before .before .before .before in
-    sym (tag-message-refused (start .args .number) (now (start .args .key)) (now (start .args .message)) (start .args .tag-length) (now (start .args .out))
+    sym (tag-message-refused (start .args .hash-number) (now (start .args .key)) (now (start .args .message)) (start .args .tag-length) (now (start .args .out))
     (c .before .taken .ensures .number) (c .if1 .taken))
 
 returns-2 : tie.Need-returns-2

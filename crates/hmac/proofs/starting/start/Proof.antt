@@ -15,29 +15,29 @@ use Rattle.hmac.proofs.starting.start.Tie as tie
 returns : tie.Need-returns
 returns c =
     let start = c .before .before .before .before .before in
-    let n = start .args .number in
-    ap (started unknownHash) (c .zeros .ensures)
+    let n = start .args .hash-number in
+    ap (started unknownHash) (c .zero-keyed .ensures)
     ∙ sym (start-unknown n (now (start .args .key)) (which-unknown n (c .before .before .before .which .ensures) (c .before .enum-told .given .1)))
 
 returns-2 : tie.Need-returns-2
 returns-2 c =
     let start = c .before .before .before .before .before .before .before in
-    let n = start .args .number in
+    let n = start .args .hash-number in
     let hash = c .before .before .before .named .given .0 .0 in
     let known = which-is n (c .before .before .before .before .before .which .ensures) hash (c .before .before .before .named .given .1) in
-    ap (started keyTooLong) (c .zeros2 .ensures) ∙ sym (start-too-long n (now (start .args .key)) (known .0) (omega arith))
+    ap (started keyTooLong) (c .zero-keyed2 .ensures) ∙ sym (start-too-long n (now (start .args .key)) (known .0) (omega arith))
 
 keyed-by-requires : tie.Need-keyed-by-requires
 keyed-by-requires c κs =
     let start = c .before .before .before .before .before .before in
     let hash = c .before .before .named .given .0 .0 in
-    let known = which-is (start .args .number) (c .before .before .before .before .which .ensures) hash (c .before .before .named .given .1) in
+    let known = which-is (start .args .hash-number) (c .before .before .before .before .which .ensures) hash (c .before .before .named .given .1) in
     (record { known = known .0; is = known .1 }, omega arith)
 
 returns-3 : tie.Need-returns-3
 returns-3 c =
     let start = c .before .before .before .before .before .before .before in
-    let n = start .args .number in
+    let n = start .args .hash-number in
     let key = now (start .args .key) in
     let hash = c .before .before .before .named .given .0 .0 in
     let known = which-is n (c .before .before .before .before .before .which .ensures) hash (c .before .before .before .named .given .1) in

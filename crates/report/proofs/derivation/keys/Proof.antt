@@ -25,14 +25,14 @@ named-keys n prk tenant machine h e = e ∙ ap (λ (x : Hash). keysOf x prk tena
 returns : tie.Need-returns
 returns c =
     let start = c .before .before .before .before .before in
-    let n = start .args .number in
+    let n = start .args .hash-number in
     sym (keys-unknown n (now (start .args .prk)) (start .args .tenant) (start .args .machine) (now (start .args .out))
     (named-unknown n (sym (c .before .before .hash-named .ensures) ∙ c .enum-told .given .1)))
 
 returns-2 : tie.Need-returns-2
 returns-2 c =
     let start = c .before .before .before .before .before .before .before .before in
-    let n = start .args .number in
+    let n = start .args .hash-number in
     let named = c .before .before .before .named in
     let known = named-is n (named .given .0 .0) (sym (c .before .before .before .before .before .hash-named .ensures) ∙ named .given .1) in
     sym (keys-too-long n (now (start .args .prk)) (start .args .tenant) (start .args .machine) (now (start .args .out)) (known .0) (omega arith))
@@ -43,7 +43,7 @@ mul-if2 c = omega (arith, c .before .digest-size .ensures, digest-most (c .befor
 returns-3 : tie.Need-returns-3
 returns-3 c =
     let start = c .before .before .before .before .before .before .before .before .before in
-    let n = start .args .number in
+    let n = start .args .hash-number in
     let named = c .before .before .before .before .named in
     let known = named-is n (named .given .0 .0) (sym (c .before .before .before .before .before .before .hash-named .ensures) ∙ named .given .1) in
     let size = c .before .before .digest-size .ensures ∙ ap sizeOf (sym (known .1)) in
@@ -52,7 +52,7 @@ returns-3 c =
 returns-4 : tie.Need-returns-4
 returns-4 c =
     let start = c .before .before .before .before .before .before .before .before .before .before in
-    let n = start .args .number in
+    let n = start .args .hash-number in
     let named = c .before .before .before .before .before .named in
     let known = named-is n (named .given .0 .0) (sym (c .before .before .before .before .before .before .before .hash-named .ensures) ∙ named .given .1) in
     let size = c .before .before .before .digest-size .ensures ∙ ap sizeOf (sym (known .1)) in
@@ -61,7 +61,7 @@ returns-4 c =
 derive-requires : tie.Need-derive-requires
 derive-requires c κs =
     let start = c .before .before .before .before .before .before .before .before .before .before .before in
-    let n = start .args .number in
+    let n = start .args .hash-number in
     let named = c .before .before .before .before .before .before .named in
     let known = named-is n (named .given .0 .0) (sym (c .before .before .before .before .before .before .before .before .hash-named .ensures) ∙ named .given .1) in
     let made = report-hash n (known .0) in
@@ -76,7 +76,7 @@ derive-requires c κs =
 returns-5 : tie.Need-returns-5
 returns-5 c =
     let start = c .before .before .before .before .before .before .before .before .before .before .before .before .before .before in
-    let n = start .args .number in
+    let n = start .args .hash-number in
     let prk = now (start .args .prk) in
     let tenant = start .args .tenant in
     let machine = start .args .machine in

@@ -36,21 +36,21 @@ add-n : tie.Need-add-n Inv-loop μ-loop
 add-n c =
     let l = c .before .before .before .loop in
     let h : l .i ≤ 7 = omega arith in
-    omega (arith, room (l .i) (l .n) h (l .inv .3 .below), c .before .shared-slice-known2 .given (c .before .before .before .before .before .args .at + l .i), c .wide .ensures)
+    omega (arith, room (l .i) (l .n) h (l .inv .3 .below), c .before .shared-slice-known2 .given (c .before .before .before .before .before .args .at + l .i), c .as-number .ensures)
 
 loop-again : tie.Need-loop-again Inv-loop μ-loop
 loop-again c =
     let l = c .before .before .before .loop in
     let a = c .before .before .before .before .before .args in
-    let b : c .wide .result < 256 = omega (arith, c .before .shared-slice-known2 .given (a .at + l .i), c .wide .ensures) in
+    let b : c .as-number .result < 256 = omega (arith, c .before .shared-slice-known2 .given (a .at + l .i), c .as-number .ensures) in
     let h : a .at + l .i < length (now (a .bytes)) = omega arith in
-    let w : c .wide .result ≡ getD (now (a .bytes)) (a .at + l .i) 0 = c .wide .ensures in (
+    let w : c .as-number .result ≡ getD (now (a .bytes)) (a .at + l .i) 0 = c .as-number .ensures in (
       search needs,
       search needs,
       search needs,
       record {
         is = simp (w, l .inv .3 .is) (sym (number-more (now (a .bytes)) (a .at) (l .i) h));
-        below = below-more (l .i) (l .n) (c .wide .result) (l .inv .3 .below) b;
+        below = below-more (l .i) (l .n) (c .as-number .result) (l .inv .3 .below) b;
       },
     )
 

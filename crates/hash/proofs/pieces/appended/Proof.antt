@@ -1,4 +1,4 @@
--- `hash::pieces::kept` meets its contract. Assumes nothing.
+-- `hash::pieces::appended` meets its contract. Assumes nothing.
 use mathlib.Core.Path.{_≡_, sym, ap, _∙_}
 use mathlib.Core.List.{List}
 use Prim.Native.Nat.{ℕ}
@@ -7,8 +7,8 @@ use lib.ListN.{length, length-map}
 use borrow.Author.Needs.{needs}
 use denote.Ref.{now}
 use Rattle.hash.specs.Inside.{withWaiting}
-use Rattle.hash.proofs.pieces.kept.Statement.{statement}
-use Rattle.hash.proofs.pieces.kept.Tie as tie
+use Rattle.hash.proofs.pieces.appended.Statement.{statement}
+use Rattle.hash.proofs.pieces.appended.Tie as tie
 
 put-at-requires : tie.Need-put-at-requires
 put-at-requires c κs =
@@ -21,5 +21,5 @@ returns c =
     let start = c .before .before .before .before .before .before in
     ap (λ (w : List ℕ). withWaiting (start .args .state) w (length (now (start .args .piece)))) (c .before .before .put-at .ensures)
 
-pub kept-spec : {M : Type 1} → statement M
-kept-spec = tie.close (tie.spec (λ c. search needs) put-at-requires (λ c. search needs) returns)
+pub appended-spec : {M : Type 1} → statement M
+appended-spec = tie.close (tie.spec (λ c. search needs) put-at-requires (λ c. search needs) returns)
