@@ -29,7 +29,7 @@ def line(columns, verdict, fingerprint):
 
 
 def judged(report, prk):
-    """The number, the columns behind the offset, the live bytes and the fingerprint."""
+    """The number, the columns after the offset, the live bytes and the fingerprint."""
     number, (_, _, hash, tenant, machine, report_number, sent, attempt, memory, sites, live) = rules.read(report)
     if number:
         return number, ["-"] * 8, 0, "-"

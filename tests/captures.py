@@ -39,7 +39,7 @@ def differing(report):
 
 def demonstration():
     """Good reports under both hashes, a retry that differs in the send time alone, a tag that differs, a label that is too long, and
-    more good ones behind."""
+    more good ones after these."""
     heap = [site(b"heap:parse_request", 917504, 112), site(b"heap:cache_insert", 4194304, 1024)]
     first = dict(tenant=1204, machine=9007199254740993, number=4711, memory=17179869184)
     other = dict(hash=2, tenant=88, machine=3405691582, number=12, memory=68719476736)
@@ -57,7 +57,7 @@ def demonstration():
 
 
 def each_refusal(hash):
-    """A report for each number that reading gives, with a good one behind each."""
+    """A report for each number that reading gives, with a good one after each."""
     tag = bytes(rules.TAG_BYTES[hash])
     refused = [
         made(version=2, hash=hash),
@@ -83,7 +83,7 @@ def cases():
     yield "missing-prk", good, None
     yield "long-prk", good, bytes(4096)
     yield "longest-prk", signed(prk=bytes(4095)), bytes(4095)
-    yield "line-end-behind-prk", good, PRK_64 + b"\n"
+    yield "line-end-after-prk", good, PRK_64 + b"\n"
     yield "short-prk", good_512 + signed(prk=PRK_32) + good_512, PRK_32
     yield "empty-prk", good + good_512, b""
     yield "other-prk", good + good_512, PRK_64[::-1]
@@ -94,7 +94,7 @@ def cases():
     yield "sum-over", most + signed([site(b"a", 1)]) + good, PRK_64
     yield "sum-of-others", differing(most) + signed([site(b"a", 1)]), PRK_64
     yield "cut-in-count", good + good_512[:3], PRK_64
-    yield "cut-behind-count", good + good_512[:4], PRK_64
+    yield "cut-after-count", good + good_512[:4], PRK_64
     yield "cut-before-end", good + good_512[:-1], PRK_64
     yield "one-byte", b"\0", PRK_64
     yield "wild-zeros", good + bytes(8) + good, PRK_64
@@ -155,7 +155,7 @@ def damaged(capture, chance):
 
 
 def random_capture(chance):
-    """Reports of random fields and sites, most of them with a byte changed behind the count, and at times damaged as a whole."""
+    """Reports of random fields and sites, most of them with a byte changed after the count, and at times damaged as a whole."""
     reports = []
     for _ in range(chance.randrange(1, 40)):
         sites = [site(chance.randbytes(chance.randrange(1, 49)), chance.getrandbits(60)) for _ in range(chance.randrange(4))]

@@ -73,7 +73,7 @@ class Hash:
         self.block = 16 * self.word
         self.size = 8 * self.word
         self.mask = 2**width - 1
-        # the first bits behind the point of the cube and square roots of the first primes
+        # the first bits after the point of the cube and square roots of the first primes
         self.k = [cube_root(p << 3 * width) & self.mask for p in primes(rounds)]
         self.first = [math.isqrt(p << 2 * width) & self.mask for p in primes(8)]
 
@@ -102,7 +102,7 @@ class Hash:
         return [x + y & self.mask for x, y in zip(words, (a, b, c, d, e, f, g, h))]
 
     def after(self, words, data):
-        """The chaining words after the whole blocks of the data, and the bytes left behind them."""
+        """The chaining words after the whole blocks of the data, and the bytes left after them."""
         whole = len(data) - len(data) % self.block
         for at in range(0, whole, self.block):
             words = self.step(words, data[at : at + self.block])

@@ -39,7 +39,7 @@ def site(label, live=4096, blocks=2, length=None):
 
 
 def made(sites=(site(b"ab"),), stated=None, off=0, left=b"", cut=0, tag=None, key=KEY, **changed):
-    """The worked report but for what is changed: the number of sites stated, how far the count is off, the bytes left behind the
+    """The worked report but for what is changed: the number of sites stated, how far the count is off, the bytes left after the
     sites, how many bytes before the tag are cut off, and the tag."""
     fields = {**WORKED, **changed}
     between = b"".join(sites) + left
@@ -52,7 +52,7 @@ def made(sites=(site(b"ab"),), stated=None, off=0, left=b"", cut=0, tag=None, ke
 
 
 def of_length(length, **changed):
-    """So many bytes with a right count: a report without sites, cut off or with zeros behind it."""
+    """So many bytes with a right count: a report without sites, cut off or with zeros after it."""
     return (big(max(length - 4, 0), 4) + made((), tag=bytes(length), **changed)[4:])[:length]
 
 
@@ -192,7 +192,7 @@ def label_lengths(hash):
 
 
 def site_ends(hash):
-    """Sites that end at every place around the tag, alone and behind another."""
+    """Sites that end at every place around the tag, alone and after another."""
     size = TAG_BYTES[hash]
     whole = site(b"ab", 2**63, 2**31)
     for before, ends in (([], range(18)), ([site(b"c")], (0, 1, 3, 11, 14, 15, 16))):
@@ -239,7 +239,7 @@ def faulty(hash, faults):
 
 
 def orders(hash):
-    """Every two faults, or under hash 2 each fault with all that come behind it, and each one alone."""
+    """Every two faults, or under hash 2 each fault with all that come after it, and each one alone."""
     names = list(FAULTS)
     for faults in itertools.combinations(names, 2) if hash == 1 else (names[i:] for i in range(len(names) - 1)):
         yield reading(faulty(hash, faults), FAULTS[faults[0]])
@@ -258,7 +258,7 @@ def tags(hash):
     for key in map(pattern, KEY_LENGTHS):
         report = made(hash=hash, key=key)
         yield checking(report, key, 0)
-        # A zero behind a key changes no tag where the key is shorter than a block, and a longer key's digest stands for it.
+        # A zero after a key changes no tag where the key is shorter than a block, and a longer key's digest stands for it.
         yield checking(report, key + b"\0", int(len(key) >= BLOCK_BYTES[hash]))
         if len(key) > BLOCK_BYTES[hash]:
             yield checking(report, HASHES[hash](key).digest(), 0)

@@ -36,11 +36,11 @@ def sites_of(report):
         length = report[at]
         if length == 0 or length > 48:
             return 14, sites
-        behind = at + 1 + length + 8 + 4
-        if behind > end:
+        after = at + 1 + length + 8 + 4
+        if after > end:
             return 15, sites
-        sites.append((at + 1, length, number_at(report, behind - 12, 8), number_at(report, behind - 4, 4)))
-        at = behind
+        sites.append((at + 1, length, number_at(report, after - 12, 8), number_at(report, after - 4, 4)))
+        at = after
     return (0 if at == end else 15), sites
 
 
@@ -63,7 +63,7 @@ def opened(report):
 
 
 def read(report):
-    """The number, and the fields with the sum of live bytes behind them."""
+    """The number, and the fields followed by the sum of live bytes."""
     number, sites = opened(report)
     if number:
         return number, [0] * 11

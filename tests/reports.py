@@ -4,8 +4,8 @@
     python3 tests/reports.py            writes the cases and the expected output, crates/report_vectors/stdin and stdout
     python3 tests/reports.py --check    compares both with what is there
 
-The cases are records, one behind the other: a byte that says the kind, and then, with numbers' highest bytes first and each string
-of bytes behind its length in four,
+The cases are records, one after the other: a byte that says the kind, and then, with numbers' highest bytes first and each string
+of bytes after its length in four,
 
     1  report, how many places in 1 byte, the places in 8 bytes each; answered by read, and by site and label at each place
     2  report, tag key; answered by check

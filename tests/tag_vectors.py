@@ -62,7 +62,7 @@ def digest(number, message):
 
 
 def block_form(number, key):
-    """The key with zeros behind it to a block; a longer key's digest."""
+    """The key with zeros after it up to a block; a longer key's digest."""
     block = HASHES[number].block
     return (digest(number, key) if len(key) > block else key).ljust(block, b"\0")
 

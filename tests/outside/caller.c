@@ -4,7 +4,7 @@
  *     caller FILE [--case N]
  *
  * Each case runs once for each way of lending memory: inside a larger block with known bytes around it, in a heap block of the
- * exact size, and with memory that may not be touched right behind it or right before it. Under valgrind, what valgrind finds is a
+ * exact size, and with memory that may not be touched right after it or right before it. Under valgrind, what valgrind finds is a
  * failure of the case at work. The first failure ends the program. */
 #define _DEFAULT_SOURCE
 #include "tirmuzzle.h"
@@ -38,9 +38,9 @@ static const struct {
 };
 
 /* How memory is lent. */
-enum { BETWEEN_KNOWN_BYTES, EXACT_BLOCK, BEFORE_UNTOUCHABLE, BEHIND_UNTOUCHABLE, WAYS };
+enum { BETWEEN_KNOWN_BYTES, EXACT_BLOCK, BEFORE_UNTOUCHABLE, AFTER_UNTOUCHABLE, WAYS };
 static const char *const ways[WAYS] = {
-    "between known bytes", "in a block of its size", "before untouchable memory", "behind untouchable memory",
+    "between known bytes", "in a block of its size", "before untouchable memory", "after untouchable memory",
 };
 
 struct test_case {
@@ -125,7 +125,7 @@ static uint8_t filling(size_t at)
 static struct lent lend(int buffer, size_t length)
 {
     struct lent lent = {NULL, NULL, 0, length};
-    if (way == BEFORE_UNTOUCHABLE || way == BEHIND_UNTOUCHABLE) {
+    if (way == BEFORE_UNTOUCHABLE || way == AFTER_UNTOUCHABLE) {
         lent.start = rooms[buffer] + (way == BEFORE_UNTOUCHABLE ? room_length - length : 0);
         return lent;
     }
@@ -238,13 +238,13 @@ static const uint8_t *read_case(const uint8_t *at)
     now.tenant = (uint32_t)little(at + 12, 4);
     now.number = little(at + 16, 8);
     now.places = (size_t)little(at + 36, 4);
-    const uint8_t *behind = at + HEAD;
+    const uint8_t *after = at + HEAD;
     for (int i = 0; i < BUFFERS; i++) {
-        now.bytes[i] = behind;
+        now.bytes[i] = after;
         now.lengths[i] = i == OUTPUT ? now.places * calls[now.call].place_bytes : (size_t)little(at + 24 + 4 * i, 4);
-        behind += i == OUTPUT && now.answer != 0 ? 0 : now.lengths[i];
+        after += i == OUTPUT && now.answer != 0 ? 0 : now.lengths[i];
     }
-    return behind;
+    return after;
 }
 
 static uint8_t *read_file(const char *name, size_t *length)
@@ -292,7 +292,7 @@ int main(int count, char **words)
         for (way = 0; way < WAYS && (only == cases || only == now.place); way++)
             run_case();
     }
-    require(at == content + length, "bytes stand behind the last case");
+    require(at == content + length, "bytes stand after the last case");
     printf("%lu cases, each with memory lent in %d ways, seed %llu\n", only == cases ? cases : 1, WAYS, seed);
     free(content);
     return 0;

@@ -145,7 +145,7 @@ fn main() {
     let words: Vec<String> = std::env::args().collect();
     let only: Option<u64> = match words.len() {
         2 => None,
-        4 if words[2] == "--case" => Some(words[3].parse().expect("a number behind --case")),
+        4 if words[2] == "--case" => Some(words[3].parse().expect("a number after --case")),
         _ => panic!("usage: caller FILE [--case N]"),
     };
     let content = std::fs::read(&words[1]).expect("the file of cases");
@@ -160,7 +160,7 @@ fn main() {
             done += 1;
         }
     }
-    assert!(rest.0.is_empty(), "bytes stand behind the last case");
+    assert!(rest.0.is_empty(), "bytes stand after the last case");
     assert!(done > 0, "there is no such case");
     println!("{done} cases, each twice, seed {seed}");
 }

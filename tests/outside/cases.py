@@ -4,7 +4,7 @@
     python3 tests/outside/cases.py FILE [SEED]    writes the cases to FILE and prints how many gave each number
 
 The cases are the same in every run with the same seed. The file has, with numbers' lowest bytes first: 8 bytes "TIRMUZZL", the seed
-in 8, how many cases in 4, and then the cases one behind the other, each as
+in 8, how many cases in 4, and then the cases one after the other, each as
 
     4  the call, its place in CALLS below
     4  the number that it must answer
