@@ -9,7 +9,7 @@
 #include <string.h>
 
 enum { TENANT = 7, MACHINE = 258, REPORT_NUMBER = 9, ATTEMPT = 0, MEMORY = 1 << 30, SITES = 2 };
-enum { DIGEST = TIRMUZZLE_SHA256_DIGEST, TAG = TIRMUZZLE_SHA256_REPORT_TAG };
+enum { KEY = TIRMUZZLE_SHA256_REPORT_KEY, TAG = TIRMUZZLE_SHA256_REPORT_TAG };
 
 struct report {
     uint8_t bytes[TIRMUZZLE_LARGEST_REPORT];
@@ -62,7 +62,7 @@ static void build(struct report *report, uint64_t send_time, const uint8_t *tag_
     size_t before_tag = report->length;
     report->length = 0;
     add_number(report, before_tag + TAG - 4, 4);
-    require(tirmuzzle_tag(TIRMUZZLE_SHA256, tag_key, DIGEST, report->bytes, before_tag, TAG, report->bytes + before_tag, TAG),
+    require(tirmuzzle_tag(TIRMUZZLE_SHA256, tag_key, KEY, report->bytes, before_tag, TAG, report->bytes + before_tag, TAG),
             "the tag");
     report->length = before_tag + TAG;
 }
@@ -94,10 +94,9 @@ static void print_site(const struct report *report, uint64_t place)
 static void take(const struct report *report, const uint8_t *tag_key, const uint8_t *fingerprint_key, uint8_t *fingerprint)
 {
     uint64_t fields[TIRMUZZLE_FIELDS];
-    require(tirmuzzle_report_check(report->bytes, report->length, tag_key, DIGEST), "the check");
+    require(tirmuzzle_report_check(report->bytes, report->length, tag_key, KEY), "the check");
     require(tirmuzzle_report_read(report->bytes, report->length, fields, TIRMUZZLE_FIELDS), "reading");
-    require(tirmuzzle_report_fingerprint(report->bytes, report->length, fingerprint_key, DIGEST, fingerprint,
-                                         TIRMUZZLE_FINGERPRINT),
+    require(tirmuzzle_report_fingerprint(report->bytes, report->length, fingerprint_key, KEY, fingerprint, TIRMUZZLE_FINGERPRINT),
             "the fingerprint");
     printf("report %llu", (unsigned long long)fields[TIRMUZZLE_FIELD_REPORT_NUMBER]);
     print_field("count", fields[TIRMUZZLE_FIELD_COUNT]);
@@ -120,11 +119,11 @@ static void take(const struct report *report, const uint8_t *tag_key, const uint
 int main(void)
 {
     static const uint8_t material[] = "the secret of this installation", salt[] = "a salt that is no secret";
-    uint8_t prk[DIGEST], keys[2 * DIGEST];
+    uint8_t prk[TIRMUZZLE_SHA256_DIGEST], keys[TIRMUZZLE_SHA256_REPORT_KEYS];
     require(tirmuzzle_extract(TIRMUZZLE_SHA256, salt, sizeof salt - 1, material, sizeof material - 1, prk, sizeof prk), "the PRK");
     /* tirmuzzle_expand makes the same keys, one by one; this call builds the info for both, and leaves nothing to get wrong. */
     require(tirmuzzle_report_keys(TIRMUZZLE_SHA256, prk, sizeof prk, TENANT, MACHINE, keys, sizeof keys), "the pair of keys");
-    const uint8_t *tag_key = keys, *fingerprint_key = keys + DIGEST;
+    const uint8_t *tag_key = keys, *fingerprint_key = keys + KEY;
 
     struct report report;
     uint8_t first[TIRMUZZLE_FINGERPRINT], again[TIRMUZZLE_FINGERPRINT];

@@ -1,9 +1,11 @@
 /* Tirmuzzle for C99 and C++: hashes, tags and derived keys of a leak-report aggregator. docs/PROTOCOL.md has the rules.
  *
- * Every call answers one of the numbers below, the first check of its list that fails, or TIRMUZZLE_DONE. A refused call writes to no
- * buffer. A buffer is a pointer and how many elements it holds; NULL with 0 is an empty one. An output must not overlap another buffer
- * of its call: it is not noticed and gives wrong bytes. Inputs may share bytes. No call keeps a pointer, takes memory or has state, so
- * calls may run at the same time.
+ * Link with libtirmuzzle.a, which is code for Linux on x86-64.
+ *
+ * Every call answers one of the numbers below: that of the first check in its list that fails, or else TIRMUZZLE_DONE. A refused call
+ * writes to no buffer. A buffer is a pointer and how many elements it holds; NULL with 0 is an empty one. A buffer of bytes may start at
+ * any address, one of 64-bit numbers must be aligned for uint64_t. Inputs may overlap each other. If an output overlaps any other buffer
+ * of the same call, the behaviour is undefined. No call keeps a pointer, takes memory or has state, so calls may run at the same time.
  */
 #ifndef TIRMUZZLE_H
 #define TIRMUZZLE_H
@@ -45,13 +47,19 @@ enum {
     TIRMUZZLE_SHA512_DIGEST = 64
 };
 
-/* Sizes of reports and of what is made from them. */
+/* Sizes in bytes, but for the number of sites, of reports and of what is made from them. */
 enum {
     TIRMUZZLE_SMALLEST_REPORT = 61,  /* under SHA-256; under SHA-512 it has 77 bytes */
     TIRMUZZLE_LARGEST_REPORT = 3981, /* under SHA-512; under SHA-256 it has 3,965 bytes */
+    TIRMUZZLE_MOST_SITES = 64,
+    TIRMUZZLE_LONGEST_LABEL = 48,
     TIRMUZZLE_SHA256_REPORT_TAG = 16,
     TIRMUZZLE_SHA512_REPORT_TAG = 32,
-    TIRMUZZLE_FINGERPRINT = 32
+    TIRMUZZLE_FINGERPRINT = 32,
+    TIRMUZZLE_SHA256_REPORT_KEY = 32, /* of a machine's tag key, and of its fingerprint key */
+    TIRMUZZLE_SHA512_REPORT_KEY = 64,
+    TIRMUZZLE_SHA256_REPORT_KEYS = 64, /* of both together, as tirmuzzle_report_keys writes them */
+    TIRMUZZLE_SHA512_REPORT_KEYS = 128
 };
 
 /* The places of what tirmuzzle_report_read writes, and how many there are. */
@@ -100,9 +108,24 @@ uint32_t tirmuzzle_extract(uint32_t hash, const uint8_t *salt, size_t salt_lengt
 uint32_t tirmuzzle_expand(uint32_t hash, const uint8_t *prk, size_t prk_length, const uint8_t *info, size_t info_length,
                           uint8_t *out, size_t out_length);
 
+/* Reading a report. Every call below that takes one reads it first, with these checks in this order:
+ *
+ *     11  it has fewer than 61 bytes, or its count is not its length less four
+ *     12  its version is not 1
+ *      2  its hash is not 1 or 2
+ *     11  under hash 2, it has fewer than 77 bytes
+ *     13  it has more than 64 sites
+ *         for each site in turn:
+ *     15      no byte is left before the tag for the length of its label
+ *     14      that length is 0 or more than 48
+ *     15      the site reaches into the tag
+ *     15  bytes are left between the last site and the tag
+ *     16  the live bytes of all sites add up to more than 2^64 - 1
+ *
+ * The tag plays no part in it. What a call refuses beyond this, it refuses only then. */
+
 /* The fingerprint of a report, which its send time and its tag do not change, under the fingerprint key as it is lent.
- * out has TIRMUZZLE_FINGERPRINT bytes. Refuses with 11, 12, 2, 11, 13, 15, 14, 15, 16 as docs/PROTOCOL.md orders them for reading a
- * report, then 3, 6. */
+ * out has TIRMUZZLE_FINGERPRINT bytes. Refuses as reading does, then with 3, 6. */
 uint32_t tirmuzzle_report_fingerprint(const uint8_t *report, size_t report_length, const uint8_t *fingerprint_key,
                                       size_t fingerprint_key_length, uint8_t *out, size_t out_length);
 
@@ -111,21 +134,20 @@ uint32_t tirmuzzle_report_fingerprint(const uint8_t *report, size_t report_lengt
 /* The digest of a message. out has a digest's bytes. Refuses with 2, 4, 6, in this order. */
 uint32_t tirmuzzle_digest(uint32_t hash, const uint8_t *message, size_t message_length, uint8_t *out, size_t out_length);
 
-/* The tag key of a machine, then its fingerprint key, each of a digest's bytes, from a PRK. out has the bytes of two digests.
- * Refuses with 2, 3, 6, 7, in this order. */
+/* The tag key of a machine, then its fingerprint key, from a PRK. out has exactly the bytes of both keys,
+ * TIRMUZZLE_SHA256_REPORT_KEYS or TIRMUZZLE_SHA512_REPORT_KEYS. Refuses with 2, 3, 6, 7, in this order. */
 uint32_t tirmuzzle_report_keys(uint32_t hash, const uint8_t *prk, size_t prk_length, uint32_t tenant, uint64_t machine, uint8_t *out,
                                size_t out_length);
 
 /* Whether the tag at the end of a report is that of all bytes before it, under the tag key as it is lent: 0 where it is, 1 where it is
- * not. Refuses as reading a report does, then with 3; 1 is the last check of all. */
+ * not. Refuses as reading does, then with 3; 1 is the last check of all. */
 uint32_t tirmuzzle_report_check(const uint8_t *report, size_t report_length, const uint8_t *tag_key, size_t tag_key_length);
 
-/* Every field of a report and the sum of its live bytes; fields has TIRMUZZLE_FIELDS places. The tag plays no part.
- * Refuses as reading a report does, then with 6. */
+/* Every field of a report and the sum of its live bytes; fields has TIRMUZZLE_FIELDS places. Refuses as reading does, then with 6. */
 uint32_t tirmuzzle_report_read(const uint8_t *report, size_t report_length, uint64_t *fields, size_t fields_count);
 
 /* The site at a place, counted from 0: where its label starts in the report, the label's length, live bytes, live blocks; site has
- * TIRMUZZLE_SITE_NUMBERS places. Refuses as reading a report does, then with 17, 6. */
+ * TIRMUZZLE_SITE_NUMBERS places. Refuses as reading does, then with 17, 6. */
 uint32_t tirmuzzle_report_site(const uint8_t *report, size_t report_length, uint64_t place, uint64_t *site, size_t site_count);
 
 #ifdef __cplusplus

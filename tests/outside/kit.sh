@@ -56,15 +56,26 @@ make_libraries() {
     fi
 }
 
-# A C program for x86-64 over the archive, linked with the kit's linker and C library.
+# Compiles C for x86-64 and links it, with the kit's linker and C library: a cc for that machine, which takes the words that cc takes.
+cc_x86() { # WORDS..
+    clang --target=x86_64-linux-gnu -isystem "/usr/include/$(gcc -dumpmachine)" -fPIE -pie -nostdlib --ld-path="$kit_tools/ld.lld" \
+        "$kit_libraries/Scrt1.o" "$kit_libraries/crti.o" "$kit_libraries/crtbeginS.o" "$@" \
+        "$kit_libraries/libc.so.6" "$kit_libraries/libc_nonshared.a" "$kit_libraries/libgcc.a" \
+        "$kit_libraries/crtendS.o" "$kit_libraries/crtn.o"
+}
+
+# A C program for x86-64 over the archive.
 build_x86() { # OUT SOURCE COMPILER-WORDS..
     local out=$1
     shift
-    clang --target=x86_64-linux-gnu -isystem "/usr/include/$(gcc -dumpmachine)" -fPIC -c "$@" -o "$out.o"
-    "$kit_tools/ld.lld" -pie -dynamic-linker /lib64/ld-linux-x86-64.so.2 -o "$out" \
-        "$kit_libraries/Scrt1.o" "$kit_libraries/crti.o" "$kit_libraries/crtbeginS.o" "$out.o" "$archive" \
-        "$kit_libraries/libc.so.6" "$kit_libraries/libc_nonshared.a" "$kit_libraries/libgcc.a" \
-        "$kit_libraries/crtendS.o" "$kit_libraries/crtn.o"
+    cc_x86 "$@" "$archive" -o "$out"
+}
+
+# A folder whose program `cc` is cc_x86, for commands that say cc.
+make_cc() { # FOLDER
+    mkdir "$1"
+    printf '#!/usr/bin/env bash\nset -eu\nwork=%q\n. %q\ncc_x86 "$@"\n' "$work" "$PWD/tests/outside/kit.sh" > "$1/cc"
+    chmod +x "$1/cc"
 }
 
 # Runs such a program with the kit's C library, and under the kit's emulator where the kit has one.

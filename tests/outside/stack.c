@@ -18,7 +18,7 @@ static uint8_t key[KEY], message[MESSAGE], out[LONGEST_OUTPUT], report[TIRMUZZLE
 static const uint8_t no_tag[TIRMUZZLE_SHA512_DIGEST];
 static uint8_t *stack; /* the lowest byte of the thread's stack */
 static uint64_t words[TIRMUZZLE_FIELDS];
-static size_t report_length, digest_length;
+static size_t report_length, digest_length, keys_length;
 static uint32_t hash;
 
 static uint32_t digest(void) { return tirmuzzle_digest(hash, message, MESSAGE, out, digest_length); }
@@ -26,11 +26,11 @@ static uint32_t tag(void) { return tirmuzzle_tag(hash, key, KEY, message, MESSAG
 static uint32_t verify(void) { return tirmuzzle_verify(hash, key, KEY, message, MESSAGE, digest_length, no_tag, digest_length); }
 static uint32_t extract(void) { return tirmuzzle_extract(hash, key, KEY, message, MESSAGE, out, digest_length); }
 static uint32_t expand(void) { return tirmuzzle_expand(hash, key, KEY, message, INFO, out, 255 * digest_length); }
-static uint32_t fingerprint(void) { return tirmuzzle_report_fingerprint(report, report_length, key, KEY, out, 32); }
-static uint32_t keys(void) { return tirmuzzle_report_keys(hash, key, KEY, 7, 258, out, 2 * digest_length); }
+static uint32_t fingerprint(void) { return tirmuzzle_report_fingerprint(report, report_length, key, KEY, out, TIRMUZZLE_FINGERPRINT); }
+static uint32_t keys(void) { return tirmuzzle_report_keys(hash, key, KEY, 7, 258, out, keys_length); }
 static uint32_t check(void) { return tirmuzzle_report_check(report, report_length, key, KEY); }
 static uint32_t read(void) { return tirmuzzle_report_read(report, report_length, words, TIRMUZZLE_FIELDS); }
-static uint32_t site(void) { return tirmuzzle_report_site(report, report_length, 63, words, TIRMUZZLE_SITE_NUMBERS); }
+static uint32_t site(void) { return tirmuzzle_report_site(report, report_length, TIRMUZZLE_MOST_SITES - 1, words, TIRMUZZLE_SITE_NUMBERS); }
 
 /* Each call, the number that it answers here, and the most bytes of stack that docs/LIMITS.md allows it. */
 static const struct {
@@ -90,16 +90,20 @@ static void put_number(size_t at, uint64_t number, int bytes)
         report[at++] = (uint8_t)(number >> 8 * bytes);
 }
 
-/* The largest report under the hash: 64 sites with labels of 48 bytes. The tag is left zero, so that it differs. */
+/* The largest report under the hash: the most sites, each with the longest label. The tag is left zero, so that it differs. */
 static void build_report(void)
 {
-    report_length = hash == TIRMUZZLE_SHA256 ? TIRMUZZLE_LARGEST_REPORT - 16 : TIRMUZZLE_LARGEST_REPORT;
-    put_number(0, report_length - 4, 4);
+    size_t at = 45;
     put_number(4, 1, 1);
     put_number(5, hash, 1);
-    put_number(43, 64, 2);
-    for (size_t i = 0; i < 64; i++)
-        put_number(45 + i * 61, 48, 1);
+    put_number(43, TIRMUZZLE_MOST_SITES, 2);
+    for (int i = 0; i < TIRMUZZLE_MOST_SITES; i++) {
+        put_number(at, TIRMUZZLE_LONGEST_LABEL, 1);
+        at += 1 + TIRMUZZLE_LONGEST_LABEL + 8 + 4;
+    }
+    report_length = at + (hash == TIRMUZZLE_SHA256 ? TIRMUZZLE_SHA256_REPORT_TAG : TIRMUZZLE_SHA512_REPORT_TAG);
+    require(report_length <= TIRMUZZLE_LARGEST_REPORT, "a report is larger than the largest");
+    put_number(0, report_length - 4, 4);
 }
 
 /* The bytes of stack that a call takes, where the stack is filled with this byte. */
@@ -124,6 +128,7 @@ int main(void)
         size_t most = 0;
         for (hash = TIRMUZZLE_SHA256; hash <= TIRMUZZLE_SHA512; hash++) {
             digest_length = hash == TIRMUZZLE_SHA256 ? TIRMUZZLE_SHA256_DIGEST : TIRMUZZLE_SHA512_DIGEST;
+            keys_length = hash == TIRMUZZLE_SHA256 ? TIRMUZZLE_SHA256_REPORT_KEYS : TIRMUZZLE_SHA512_REPORT_KEYS;
             build_report();
             measured(call, 0); /* not counted: the loader may still have to look up memcpy, on the same stack */
             size_t one = measured(call, 0x5a), other = measured(call, 0xab);
