@@ -2,13 +2,14 @@
 """Captures, PRKs and what `inspect` must write of them, by a second program that shares nothing with the crates.
 
     python3 tests/captures.py            writes tests/captures/, examples/ and what crates/inspect is run on
-    python3 tests/captures.py --check    compares all with what is there
-    python3 tests/captures.py --run      runs ./tirmuzzle inspect on them, and on random captures
+    python3 tests/captures.py --check    compares all with what is there, and the excerpt in README.md with what is expected
+    python3 tests/captures.py --run      runs ./tirmuzzle inspect on them, on random captures, and as README.md says
 
 A folder of tests/captures/ has a case: `capture` and `prk`, of which one may be missing, and `expected`, whose last line also gives the
 exit status that ./tirmuzzle must have."""
 import pathlib
 import random
+import re
 import subprocess
 import sys
 import tempfile
@@ -125,8 +126,33 @@ def hold(holds, what):
         sys.exit(f"tests/captures.py: {what}")
 
 
+def readme_part(form, what):
+    """The first part of README.md of this form."""
+    found = re.search(form, (ROOT / "README.md").read_text(), re.MULTILINE | re.DOTALL)
+    hold(found, f"README.md has no {what}")
+    return found[1]
+
+
+def hold_excerpt():
+    """Holds the excerpt in README.md to what is expected of the demonstration. In it `..` stands for what is left out of a line, a line
+    of its own for any number of lines, and columns are as wide as they have to be."""
+    shown, _ = capture_rules.expected(demonstration(), PRK_64)
+    left, gap = shown.splitlines(), False
+    for line in readme_part(r"^```text\n(.*?)^```$", "excerpt").splitlines():
+        if line == "..":
+            gap = True
+            continue
+        form = " *" + " +".join(re.escape(word).replace(r"\.\.", ".*") for word in line.split()) + " *"
+        while gap and left and not re.fullmatch(form, left[0]):
+            left.pop(0)
+        hold(left and re.fullmatch(form, left.pop(0)), f"./tirmuzzle inspect does not write this line where README.md has it: {line}")
+        gap = False
+    hold(gap or not left, "./tirmuzzle inspect writes more at the end than README.md has")
+
+
 def check():
     """Holds each file to what is made here, and finds those that are not made here."""
+    hold_excerpt()
     made_here = files()
     for place, content in made_here.items():
         path = ROOT / place
@@ -167,26 +193,28 @@ def random_capture(chance):
     return damaged(capture, chance) if chance.randrange(2) else capture
 
 
-def run_one(folder, name, capture, prk):
+def run_one(command, folder, name, capture, prk):
     """Holds what ./tirmuzzle writes, and its status, to what is expected."""
     text, status = capture_rules.expected(capture, prk)
-    ran = subprocess.run([ROOT / "tirmuzzle", "inspect", "a capture", "prk"], cwd=folder, capture_output=True)
+    ran = subprocess.run(command, cwd=folder, capture_output=True)
     hold(ran.stdout == text.encode(), f"{name}: ./tirmuzzle writes something else:\n{ran.stdout.decode()}{ran.stderr.decode()}")
     hold(ran.returncode == status, f"{name}: the exit status is {ran.returncode}, not {status}")
 
 
 def run():
-    """Every case, and random captures, each in a folder of its own outside the repository."""
+    """Every case, and random captures, each in a folder of its own outside the repository; and README's first command."""
     chance = random.Random(SEED)
     randoms = [(f"random capture {i}", random_capture(chance), PRK_64) for i in range(RANDOM_CAPTURES)]
-    shown = [*cases(), ("demonstration", demonstration(), PRK_64), *randoms]
+    shown = [*cases(), *randoms]
     for name, capture, prk in shown:
         with tempfile.TemporaryDirectory() as folder:
             for file, content in (("a capture", capture), ("prk", prk)):
                 if content is not None:
                     (pathlib.Path(folder) / file).write_bytes(content)
-            run_one(folder, name, capture, prk)
-    print(f"captures: {len(shown)} shown as they must be, seed {SEED}")
+            run_one([ROOT / "tirmuzzle", "inspect", "a capture", "prk"], folder, name, capture, prk)
+    command = readme_part(r"^    (\./tirmuzzle [^\n]*)", "command that starts with ./tirmuzzle")
+    run_one(["sh", "-c", command], ROOT, command, demonstration(), PRK_64)
+    print(f"captures: {len(shown)} and README's command shown as they must be, seed {SEED}")
 
 
 def main(arguments):
