@@ -5,9 +5,9 @@
  * Every call answers one of the numbers below: that of the first check in its list that fails, or else TIRMUZZLE_DONE. A refused call
  * writes to no buffer. No call keeps a pointer, allocates memory or has state, so calls may run at the same time.
  *
- * A buffer is a pointer and how many elements it holds; NULL with 0 is an empty one. A buffer of bytes may start at any address, but one
- * of 64-bit numbers must be aligned for uint64_t. Inputs may overlap each other. If an output overlaps any other buffer of the same
- * call, the behaviour is undefined.
+ * A buffer is a pointer and how many elements it holds; NULL with 0 is an empty one. A buffer of bytes may start at any address, but
+ * one of 64-bit numbers must be aligned for uint64_t. Inputs may overlap each other. If an output overlaps any other buffer of the
+ * same call, the behaviour is undefined.
  */
 #ifndef TIRMUZZLE_H
 #define TIRMUZZLE_H

@@ -13,6 +13,7 @@
 #include <sys/mman.h>
 
 enum { STACK = 1 << 17, MARGIN = 128, KEY = 300, MESSAGE = 5000, INFO = 1024, LONGEST_OUTPUT = 255 * TIRMUZZLE_SHA512_DIGEST };
+enum { LAST_SITE = TIRMUZZLE_MOST_SITES - 1 };
 
 static uint8_t key[KEY], message[MESSAGE], out[LONGEST_OUTPUT], report[TIRMUZZLE_LARGEST_REPORT];
 static const uint8_t no_tag[TIRMUZZLE_SHA512_DIGEST];
@@ -30,7 +31,7 @@ static uint32_t fingerprint(void) { return tirmuzzle_report_fingerprint(report, 
 static uint32_t keys(void) { return tirmuzzle_report_keys(hash, key, KEY, 7, 258, out, keys_length); }
 static uint32_t check(void) { return tirmuzzle_report_check(report, report_length, key, KEY); }
 static uint32_t read(void) { return tirmuzzle_report_read(report, report_length, words, TIRMUZZLE_FIELDS); }
-static uint32_t site(void) { return tirmuzzle_report_site(report, report_length, TIRMUZZLE_MOST_SITES - 1, words, TIRMUZZLE_SITE_NUMBERS); }
+static uint32_t site(void) { return tirmuzzle_report_site(report, report_length, LAST_SITE, words, TIRMUZZLE_SITE_NUMBERS); }
 
 /* Each call, the number that it answers here, and the most bytes of stack that docs/LIMITS.md allows it. */
 static const struct {
