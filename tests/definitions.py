@@ -9,8 +9,9 @@ The first line of a file, Lib.antt apart, begins in one of three ways:
     -- Private:     what private functions ask and promise: it states no law either
     -- Proved:      laws with their proofs: it makes no public definition
 
-A law is known by its type, which speaks after its last arrow of an equality, an equivalence, an order or of what cannot be, or by a
-hyphen in its name, which no definition has. The parts of a record or of a data type are no laws: they are what a definition says."""
+A law is known by its type, which ends in an equality, an equivalence, an order, an absurdity or a record of such facts, or by a hyphen in
+its name, which no definition has. Everything else with a type is a definition. The parts of a record or of a data type are no laws: they
+are what a definition says."""
 import pathlib
 import re
 import sys
@@ -40,17 +41,32 @@ def statements(text):
     yield first, words
 
 
-def law(statement):
-    """The name of the law that a statement declares, or None."""
+def records_of_facts(texts):
+    """The names of the records and data types that state facts: those whose parts speak of an equality and the like."""
+    found = set()
+    for text in texts:
+        for _, statement in statements(text):
+            named = re.match(r"(?:pub )?(?:record|data) (\S+)(.*)", statement)
+            if named and LAW.search(named[2]):
+                found.add(named[1])
+    return found
+
+
+def declared(statement):
+    """The name and the end of the type that a statement declares, or None."""
     found = SIGNATURE.fullmatch(statement)
     if not found or statement.startswith(("pub record ", "pub data ", "record ", "data ")):
         return None
     name, type = found.groups()
-    result = type.rsplit("→", 1)[-1]
-    return name if ("-" in name or LAW.search(result)) and not result.endswith("Type 0") else None
+    return name, type.rsplit("→", 1)[-1].strip()
 
 
-def faults(text):
+def is_law(name, result, facts):
+    """Whether a declaration is a law."""
+    return not result.endswith("Type 0") and ("-" in name or LAW.search(result) is not None or result.split()[0] in facts)
+
+
+def faults(text, facts):
     """What is wrong with a file, each with its line."""
     kind = next((kind for kind in KINDS if text.startswith(f"-- {kind}: ")), None)
     if kind is None:
@@ -59,10 +75,15 @@ def faults(text):
         for number, line in enumerate(text.splitlines(), 1):
             if PUBLIC_DEFINITION.match(line):
                 yield number, f"a proved file makes a public definition: {line.strip()}"
+        for number, statement in statements(text):
+            found = declared(statement)
+            if found and statement.startswith("pub ") and not is_law(*found, facts):
+                yield number, f"a proved file makes a public definition: {found[0]}"
     else:
         for number, statement in statements(text):
-            if law(statement):
-                yield number, f"a {kind.lower()} file states a law: {law(statement)}"
+            found = declared(statement)
+            if found and is_law(*found, facts):
+                yield number, f"a {kind.lower()} file states a law: {found[0]}"
 
 
 def main(arguments):
@@ -70,7 +91,9 @@ def main(arguments):
         sys.exit(__doc__)
     crates = pathlib.Path(arguments[0]) if arguments else ROOT / "crates"
     files = sorted(path for path in crates.glob("*/specs/**/*.antt") if path.name != "Lib.antt")
-    found = [f"{path.relative_to(crates.parent)}:{number}: {fault}" for path in files for number, fault in faults(path.read_text())]
+    texts = {path: path.read_text() for path in files}
+    facts = records_of_facts(texts.values())
+    found = [f"{path.relative_to(crates.parent)}:{number}: {fault}" for path in files for number, fault in faults(texts[path], facts)]
     if found or not files:
         sys.exit("\n".join(found) or f"{crates} has no specs")
     print(f"definitions: {len(files)} files, each as its first line says")

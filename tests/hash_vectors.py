@@ -8,7 +8,7 @@ import math
 import sys
 
 MOST_BYTES = 4294967295
-PLACES = 128
+LARGEST_BLOCK = 128
 UNTOUCHED = 0xA5
 
 # The two messages of more than one block in FIPS 180-4's examples.
@@ -128,15 +128,15 @@ class State:
     """A state of work in pieces (docs/PROTOCOL.md), which no call changes."""
 
     def __init__(self, hash, words, count, waiting):
-        self.hash, self.words, self.count, self.waiting = hash, list(words), count, bytes(waiting).ljust(PLACES, b"\0")
+        self.hash, self.words, self.count, self.waiting = hash, list(words), count, bytes(waiting).ljust(LARGEST_BLOCK, b"\0")
 
-    def held(self):
+    def waiting_count(self):
         return self.count % self.hash.block
 
     def sound(self):
         return (
             self.count <= MOST_BYTES
-            and not any(self.waiting[self.held() :])
+            and not any(self.waiting[self.waiting_count() :])
             and all(x < 2**self.hash.width for x in self.words)
         )
 
@@ -162,7 +162,7 @@ def update(state, piece):
         return 10, state
     if state.count + len(piece) > MOST_BYTES:
         return 4, state
-    words, left = state.hash.after(state.words, state.waiting[: state.held()] + piece)
+    words, left = state.hash.after(state.words, state.waiting[: state.waiting_count()] + piece)
     return 0, State(state.hash, words, state.count + len(piece), left)
 
 
@@ -172,7 +172,7 @@ def finish(state, size):
         return 10, bytes([UNTOUCHED]) * size
     if size != state.hash.size:
         return 6, bytes([UNTOUCHED]) * size
-    words, left = state.hash.after(state.words, state.waiting[: state.held()] + state.hash.padding(state.count))
+    words, left = state.hash.after(state.words, state.waiting[: state.waiting_count()] + state.hash.padding(state.count))
     hold(not left, "the padding fills no block")
     return 0, state.hash.spelled(words)
 

@@ -74,7 +74,7 @@ def shown(content):
     return content.hex() or "empty"
 
 
-def held(number, made_for, what):
+def agrees(number, made_for, what):
     hold(made_for in (None, number), f"a {what} made for {made_for} answers {number}")
 
 
@@ -87,7 +87,7 @@ def site_line(report, place):
 def reading(report, made_for=None, places=None):
     """The case of reading a report and asking for its sites at these places; without any, at those around its limits."""
     number, fields = rules.read(report)
-    held(number, made_for, f"report {report.hex()}")
+    agrees(number, made_for, f"report {report.hex()}")
     if places is None:
         sites = fields[9]
         places = (0, 64) if number else sorted({0, max(sites, 1) - 1, sites, 64, 2**32, LARGEST_64})
@@ -97,13 +97,13 @@ def reading(report, made_for=None, places=None):
 
 def checking(report, key, made_for=None):
     number = rules.check(report, key)
-    held(number, made_for, f"tag of {report.hex()}")
+    agrees(number, made_for, f"tag of {report.hex()}")
     return b"\2" + prefixed(report, MOST_REPORT_BYTES) + prefixed(key, MOST_KEY_BYTES), [f"check: {number}"]
 
 
 def fingerprinting(report, key, size=32, made_for=None):
     number, out = rules.fingerprint(report, key, size)
-    held(number, made_for, f"fingerprint of {report.hex()}")
+    agrees(number, made_for, f"fingerprint of {report.hex()}")
     hold(size <= MOST_OUTPUT_BYTES, "a fingerprint's output is too large")
     record = b"\3" + prefixed(report, MOST_REPORT_BYTES) + prefixed(key, MOST_KEY_BYTES) + big(size, 4)
     return record, [f"fingerprint: {number}, {shown(out)}"]
@@ -111,7 +111,7 @@ def fingerprinting(report, key, size=32, made_for=None):
 
 def deriving(number, prk, size, made_for, tenant=7, machine=258):
     answered, out = rules.keys(number, prk, tenant, machine, size)
-    held(answered, made_for, f"pair of keys for hash {number}, {len(prk)} and {size} bytes")
+    agrees(answered, made_for, f"pair of keys for hash {number}, {len(prk)} and {size} bytes")
     hold(size <= MOST_OUTPUT_BYTES, "an output of keys is too large")
     record = b"\4" + big(number, 4) + prefixed(prk, MOST_KEY_BYTES) + big(tenant, 4) + big(machine, 8) + big(size, 4)
     return record, [f"keys: {answered}, {shown(out)}"]

@@ -21,7 +21,7 @@ abbrev pub firstFailing : List Check → ℕ
 firstFailing [] = done
 firstFailing (c ∷ cs) = cond (c .passes) (firstFailing cs) (c .number)
 
--- what a call leaves after: the work where no check fails, else what was given
+-- what a call leaves: the work where no check fails, else what was given
 abbrev pub decided {ℓ} : {A : Type ℓ} → List Check → A → A → A
 decided cs work given = cond (eqb (firstFailing cs) done) work given
 

@@ -56,7 +56,7 @@ pub record Starred : Type 0 where
   -- hash 2: a message of 111 bytes has 1 padded block, of 112 bytes 2
   pub wide-111 : (m : List ℕ) → length m ≡ 111 → length (blocksOf Sha512 m) ≡ 1
   pub wide-112 : (m : List ℕ) → length m ≡ 112 → length (blocksOf Sha512 m) ≡ 2
-  -- a zero after key 01 leaves its form, one before it does not, and no key at all has zeros for a form
+  -- a zero after key 01 leaves its form, one before it does not, and the empty key has zeros for a form
   pub zero-after : (h : Hash) → formOf h (0x01 ∷ []) ≡ formOf h (0x01 ∷ 0x00 ∷ [])
   pub zero-before : (h : Hash) → formOf h (0x01 ∷ []) ≡ formOf h (0x00 ∷ 0x01 ∷ []) → ⊥
   pub empty-key : (h : Hash) → formOf h [] ≡ replicate (blockOf h) 0

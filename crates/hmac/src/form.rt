@@ -5,7 +5,7 @@ ghost use lib.ListN.{length, take};
 ghost use Rattle.algorithm.specs.Hashes.{blockOf};
 ghost use Rattle.algorithm.specs.Refusals.{mostBytes};
 ghost use Rattle.hash.specs.Digest.{digestOf};
-ghost use Rattle.hash.specs.State.{freshOf, afterOf};
+ghost use Rattle.hash.specs.State.{largestBlock, freshOf, afterOf};
 ghost use Rattle.octets.specs.Zeros.{zerosTo};
 ghost use Rattle.hmac.specs.Form.{formOf, masked};
 ghost use Rattle.hmac.specs.Inside.{Naming};
@@ -15,8 +15,8 @@ use hash::State;
 
 // The bytes, and zeros after them.
 fn copied(bytes: &[u8]) -> [u8; LARGEST_BLOCK]
-    requires { ⌜ length (now bytes) ≤ 128 ⌝ }
-    ensures { λ r. ⌜ r ≡ zerosTo 128 (now (bytes .entry)) ⌝ }
+    requires { ⌜ length (now bytes) ≤ largestBlock ⌝ }
+    ensures { λ r. ⌜ r ≡ zerosTo largestBlock (now (bytes .entry)) ⌝ }
 {
     let mut out = [0u8; LARGEST_BLOCK];
     octets::copy_prefix(bytes, &mut out);
@@ -27,7 +27,7 @@ fn copied(bytes: &[u8]) -> [u8; LARGEST_BLOCK]
 fn digested(hash_number: u32, hash: Hash, key: &[u8]) -> [u8; LARGEST_BLOCK]
     requires { ⌜ Naming «hash_number» hash ⌝ }
     requires { ⌜ length (now key) ≤ mostBytes ⌝ }
-    ensures { λ r. ⌜ r ≡ zerosTo 128 (digestOf hash (now (key .entry))) ⌝ }
+    ensures { λ r. ⌜ r ≡ zerosTo largestBlock (digestOf hash (now (key .entry))) ⌝ }
 {
     let started = hash::start(hash_number);
     let fresh = started.state;
@@ -41,7 +41,7 @@ fn digested(hash_number: u32, hash: Hash, key: &[u8]) -> [u8; LARGEST_BLOCK]
 pub(crate) fn block_form(hash_number: u32, hash: Hash, key: &[u8]) -> [u8; LARGEST_BLOCK]
     requires { ⌜ Naming «hash_number» hash ⌝ }
     requires { ⌜ length (now key) ≤ mostBytes ⌝ }
-    ensures { λ r. ⌜ r ≡ zerosTo 128 (formOf hash (now (key .entry))) ⌝ }
+    ensures { λ r. ⌜ r ≡ zerosTo largestBlock (formOf hash (now (key .entry))) ⌝ }
 {
     let size = algorithm::block_size(hash);
     if key.len() <= size {

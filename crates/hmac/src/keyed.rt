@@ -27,6 +27,13 @@ pub struct Fed {
     pub keyed: Keyed,
 }
 
+// The bytes that the inner hash has taken, the block of the inner pad among them: the length field counts them all.
+fn inner_count(keyed: Keyed) -> u64
+    ensures { λ r. ⌜ r ≡ keyed .count ⌝ }
+{
+    keyed.count
+}
+
 // The inner hash at work.
 pub(crate) fn inner(keyed: Keyed) -> State
     ensures { λ r. ⌜ r ≡ innerOf keyed ⌝ }
@@ -37,7 +44,7 @@ pub(crate) fn inner(keyed: Keyed) -> State
     State {
         hash,
         words,
-        count: keyed.count,
+        count: inner_count(keyed),
         waiting,
     }
 }

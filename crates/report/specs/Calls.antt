@@ -67,7 +67,7 @@ readIntoAnswer s fields = answered (readIntoChecks s fields) (numbersOf (fieldsO
 abbrev pub ReadIntoOutcome : List ℕ → List ℕ → ℕ → List ℕ → Type 0
 ReadIntoOutcome s fields r after = _≡_ {A = ℕ × List ℕ} (r, after) (readIntoAnswer s fields)
 
--- the site at a place, and where it starts after the first one
+-- the site at a place, and how far from the first one it starts
 abbrev pub noSite : Site
 noSite = record { label = []; live = 0; blocks = 0 }
 

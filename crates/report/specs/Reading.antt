@@ -58,12 +58,15 @@ readSites zero [] = (done, [])
 readSites zero (b ∷ l) = (sitesMisplaced, [])
 -- no length byte stands before the tag: 15
 readSites (suc n) [] = (sitesMisplaced, [])
--- a label length that is 0 or over 48: 14; then a site that runs into the tag: 15; else the site, and the sites after it
+-- a length byte stands there
 readSites (suc n) (size ∷ l) =
     cond (leb 1 size && leb size 48)
     (cond (leb (size + 12) (length l))
+    -- the site ends before the tag, and the sites after it decide
     (withSite (firstSite size l) (readSites n (drop (size + 12) l)))
+    -- the site runs into the tag: 15
     (sitesMisplaced, []))
+    -- the label length is 0 or over 48: 14
     (labelLengthOutOfRange, [])
 
 abbrev pub sitesIn : List ℕ → ℕ × List Site

@@ -37,8 +37,8 @@ pub(crate) fn fingerprint(report: &[u8], key: &[u8], out: &mut [u8]) {
     say::answer(number, out);
 }
 
-pub(crate) fn keys(number: u32, prk: &[u8], tenant: u32, machine: u64, out: &mut [u8]) {
-    let answered = report::keys(number, prk, tenant, machine, out);
+pub(crate) fn keys(hash_number: u32, prk: &[u8], tenant: u32, machine: u64, out: &mut [u8]) {
+    let answered = report::keys(hash_number, prk, tenant, machine, out);
     say::text(b"keys: ");
     say::answer(answered, out);
 }

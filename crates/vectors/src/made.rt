@@ -9,8 +9,8 @@ ghost use Prim.Native.Nat.{_<_};
 pub(crate) const NUMBERS: [u32; 5] = [0, 1, 2, 3, 4294967295];
 
 // The hash that a number names, and SHA-256 where it names none.
-pub(crate) fn hash_of(number: u32) -> Hash {
-    match algorithm::which(number) {
+pub(crate) fn hash_of(hash_number: u32) -> Hash {
+    match algorithm::which(hash_number) {
         Named::Is(hash) => hash,
         Named::Unknown => Hash::Sha256,
     }
@@ -33,7 +33,7 @@ pub(crate) fn nearly_zero(hash: Hash, count: u64, place: usize, word: u64) -> St
 }
 
 // How many bytes wait for a full block.
-fn held(hash: Hash, count: u64) -> usize
+fn waiting_count(hash: Hash, count: u64) -> usize
     ensures { λ r. ⌜ r < 128 ⌝ }
 {
     match hash {
@@ -45,7 +45,7 @@ fn held(hash: Hash, count: u64) -> usize
 // A sound state with words of its own, 1 to 8, and as many waiting bytes as its count asks for, 1 and onward.
 pub(crate) fn own(hash: Hash, count: u64) -> State {
     let mut waiting = [0u8; 128];
-    for i in 0..held(hash, count) {
+    for i in 0..waiting_count(hash, count) {
         waiting[i] = (i + 1) as u8;
     }
     State {

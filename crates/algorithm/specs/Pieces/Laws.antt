@@ -60,3 +60,11 @@ module _ {S : Type 0} {w : Work S} (t : Taking w) where
       let f : w .count s + length p ≤ mostBytes = omega arith in
       rw (t .taken s p h f) (ap (λ (r : List ℕ). p ++ r) (cut-taken c (w .after s p) (t .after-held s p h f) (omega (arith, t .after-count s p))))
   cut-taken (between p l c) s h e = rw (t .too-long s p h (omega arith)) (cut-taken c s h e)
+
+-- any cut of bytes that fit is such a cut, with nothing between
+pub cut-any : (n : ℕ) (ps : List (List ℕ)) → n + length (flatten ps) ≤ mostBytes → Cut n ps (flatten ps)
+unfolding flatten
+cut-any n [] l = end
+cut-any n (p ∷ ps) l =
+    let e : length (p ++ flatten ps) ≡ length p + length (flatten ps) = length-append p (flatten ps) in
+    piece {n = n} p (omega arith) (cut-any (n + length p) ps (omega arith))

@@ -17,7 +17,7 @@ use Rattle.algorithm.specs.declared.hashes.Hash.{Hash}
 use Rattle.algorithm.specs.declared.hashes.Hash.the-variants.{Sha256}
 use Rattle.algorithm.specs.Hashes.{blockOf, sizeOf}
 use Rattle.algorithm.specs.Refusals.{mostBytes}
-use Rattle.hash.specs.Description.{describe, narrow, wide}
+use Rattle.hash.specs.Description.{describe, narrow}
 use Rattle.hash.specs.Blocks.{wholeBlocks, leftOver, wordsAfter}
 use Rattle.hash.specs.Blocks.Laws.{left-length, left-short, left-append, words-short, words-append}
 use Rattle.hash.specs.Sha2.{step, padding, keep}
@@ -95,7 +95,7 @@ module _ (s : State) (m : List ℕ) (w : length (s .waiting) ≡ largestBlock) w
       ∙ ap (λ (n : ℕ). n % blockOf (s .hash)) (length-append (waitingOf s) m ∙ ap (λ (n : ℕ). n + length m) (waiting-length s w))
       ∙ mod-add-mod (s .count) (blockOf (s .hash)) (length m)
 
-  -- what waits after bytes is what they leave after the whole blocks
+  -- once bytes are taken, what waits is what they leave over of the whole blocks
   pub after-waiting : waitingOf (afterOf s m) ≡ leftOver (blockOf (s .hash)) (waitingOf s ++ m)
   unfolding afterOf
   after-waiting =

@@ -36,7 +36,7 @@ differ-twice (suc zero) (suc zero) h k = refl
 differ-twice (suc zero) (suc (suc y)) h k = absurd (omega arith)
 differ-twice (suc (suc x)) y h k = absurd (omega arith)
 
--- so a number with x, and with x once more, is itself
+-- so a number XOR x, and XOR x once more, is itself
 digit-more : (n x : ℕ) → bitXor (bitXor (n / 2) (x / 2)) (x / 2) ≡ n / 2 → bitXor (bitXor n x) x ≡ n
 digit-more n x ih =
     let q : ℕ = bitXor (n / 2) (x / 2) in
@@ -57,7 +57,7 @@ xor-twice = bin-ind (λ (n : ℕ). (x : ℕ) → bitXor (bitXor n x) x ≡ n) xo
 pub xor-injective : (x a b : ℕ) → bitXor a x ≡ bitXor b x → a ≡ b
 xor-injective x a b e = sym (xor-twice a x) ∙ ap (λ (k : ℕ). bitXor k x) e ∙ xor-twice b x
 
--- bytes with x are as many, and no other bytes have the same
+-- bytes XOR x are as many, and no other bytes give the same
 pub masked-length : (x : ℕ) (l : List ℕ) → length (masked x l) ≡ length l
 masked-length x l = length-map l (λ b. bitXor b x)
 

@@ -23,43 +23,50 @@ fn answer(number: u32, out: &[u8]) {
     say::text(b"\n");
 }
 
-fn extract_to(number: u32, salt: &[u8], material: &[u8], out: &mut [u8]) {
-    let answered = hkdf::extract(number, salt, material, out);
+fn extract_to(hash_number: u32, salt: &[u8], material: &[u8], out: &mut [u8]) {
+    let answered = hkdf::extract(hash_number, salt, material, out);
     say::text(b"  extract: ");
     answer(answered, out);
 }
 
-fn expand_to(number: u32, key: &[u8], info: &[u8], out: &mut [u8]) {
-    let answered = hkdf::expand(number, key, info, out);
+fn expand_to(hash_number: u32, key: &[u8], info: &[u8], out: &mut [u8]) {
+    let answered = hkdf::expand(hash_number, key, info, out);
     say::text(b"  expand: ");
     answer(answered, out);
 }
 
-pub(crate) fn extract(number: u32, salt: &[u8], material: &[u8], size: usize) {
+pub(crate) fn extract(hash_number: u32, salt: &[u8], material: &[u8], size: usize) {
     let mut out = [0xa5u8; 65];
     if size <= 65 {
-        extract_to(number, salt, material, &mut out[0..size]);
+        extract_to(hash_number, salt, material, &mut out[0..size]);
     }
 }
 
-pub(crate) fn expand(number: u32, key: &[u8], info: &[u8], size: usize) {
+pub(crate) fn expand(hash_number: u32, key: &[u8], info: &[u8], size: usize) {
     let mut out = [0xa5u8; 16321];
     if size <= 16321 {
-        expand_to(number, key, info, &mut out[0..size]);
+        expand_to(hash_number, key, info, &mut out[0..size]);
     }
 }
 
 // A key from salt and material, and so many bytes from it.
-fn derive_by(number: u32, salt: &[u8], material: &[u8], key: &mut [u8], info: &[u8], size: usize) {
-    extract_to(number, salt, material, key);
-    expand(number, key, info, size);
+fn derive_by(
+    hash_number: u32,
+    salt: &[u8],
+    material: &[u8],
+    key: &mut [u8],
+    info: &[u8],
+    size: usize,
+) {
+    extract_to(hash_number, salt, material, key);
+    expand(hash_number, key, info, size);
 }
 
-pub(crate) fn derive(number: u32, salt: &[u8], material: &[u8], info: &[u8], size: usize) {
+pub(crate) fn derive(hash_number: u32, salt: &[u8], material: &[u8], info: &[u8], size: usize) {
     let mut key = [0xa5u8; 64];
-    if number == 1 {
-        derive_by(number, salt, material, &mut key[0..32], info, size);
+    if hash_number == 1 {
+        derive_by(hash_number, salt, material, &mut key[0..32], info, size);
     } else {
-        derive_by(number, salt, material, &mut key, info, size);
+        derive_by(hash_number, salt, material, &mut key, info, size);
     }
 }

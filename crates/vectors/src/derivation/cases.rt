@@ -44,19 +44,19 @@ pub(crate) fn published() {
     case_3();
 }
 
-fn salted(number: u32, size: usize) {
+fn salted(hash_number: u32, size: usize) {
     let material = [0x0bu8; 22];
-    calls::derive(number, b"salt", &material, b"info", size);
+    calls::derive(hash_number, b"salt", &material, b"info", size);
 }
 
-fn unsalted(number: u32, size: usize) {
+fn unsalted(hash_number: u32, size: usize) {
     let material = [0x0bu8; 22];
-    calls::derive(number, b"", &material, b"", size);
+    calls::derive(hash_number, b"", &material, b"", size);
 }
 
 // Both calls with each hash: outputs of none, one, a digest less one, a digest, one more, the most that expand gives, and more.
 pub(crate) fn lengths(
-    number: u32,
+    hash_number: u32,
     less: usize,
     size: usize,
     one_more: usize,
@@ -64,34 +64,34 @@ pub(crate) fn lengths(
     too_many: usize,
 ) {
     say::text(b"hash ");
-    say::number(number as u64);
+    say::number(hash_number as u64);
     say::text(b"\n");
-    salted(number, 0);
-    salted(number, 1);
-    salted(number, less);
-    unsalted(number, size);
-    salted(number, one_more);
-    salted(number, most);
-    salted(number, too_many);
+    salted(hash_number, 0);
+    salted(hash_number, 1);
+    salted(hash_number, less);
+    unsalted(hash_number, size);
+    salted(hash_number, one_more);
+    salted(hash_number, most);
+    salted(hash_number, too_many);
 }
 
 // Fifty bytes under a key and with an info of these sizes.
-fn fifty(number: u32, key_size: usize, info_size: usize) {
+fn fifty(hash_number: u32, key_size: usize, info_size: usize) {
     let key = [0x0bu8; 65];
     let info = [0x1fu8; 1025];
     if key_size <= 65 {
         if info_size <= 1025 {
-            calls::expand(number, &key[0..key_size], &info[0..info_size], 50);
+            calls::expand(hash_number, &key[0..key_size], &info[0..info_size], 50);
         }
     }
 }
 
 // Keys and info on both sides of their limits, and outputs of extract of other sizes.
-pub(crate) fn limits(number: u32, less: usize, size: usize, one_more: usize) {
-    fifty(number, size, 1024);
-    fifty(number, size, 1025);
-    fifty(number, less, 1025);
-    fifty(number, 65, 0);
-    calls::extract(number, b"salt", b"material", less);
-    calls::extract(number, b"salt", b"material", one_more);
+pub(crate) fn limits(hash_number: u32, less: usize, size: usize, one_more: usize) {
+    fifty(hash_number, size, 1024);
+    fifty(hash_number, size, 1025);
+    fifty(hash_number, less, 1025);
+    fifty(hash_number, 65, 0);
+    calls::extract(hash_number, b"salt", b"material", less);
+    calls::extract(hash_number, b"salt", b"material", one_more);
 }

@@ -3,8 +3,8 @@ use crate::made;
 use crate::say;
 use hash::State;
 
-fn digest_to(number: u32, message: &[u8], out: &mut [u8]) {
-    let answered = hash::digest(number, message, out);
+fn digest_to(hash_number: u32, message: &[u8], out: &mut [u8]) {
+    let answered = hash::digest(hash_number, message, out);
     say::answer(answered, out);
 }
 
@@ -14,10 +14,10 @@ fn finish_to(state: State, out: &mut [u8]) {
 }
 
 // Into an output of some bytes, at most 65, that holds a5 everywhere.
-pub(crate) fn digest(number: u32, message: &[u8], size: usize) {
+pub(crate) fn digest(hash_number: u32, message: &[u8], size: usize) {
     let mut out = [0xa5u8; 65];
     if size <= 65 {
-        digest_to(number, message, &mut out[0..size]);
+        digest_to(hash_number, message, &mut out[0..size]);
     }
 }
 

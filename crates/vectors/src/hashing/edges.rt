@@ -11,10 +11,10 @@ pub(crate) fn starts() {
     }
 }
 
-fn start(number: u32) {
+fn start(hash_number: u32) {
     say::text(b"start for hash ");
-    say::number(number as u64);
-    let started = hash::start(number);
+    say::number(hash_number as u64);
+    let started = hash::start(hash_number);
     say::text(b": ");
     say::number(started.number as u64);
     say::text(b", ");
@@ -22,7 +22,7 @@ fn start(number: u32) {
     let state = calls::update(started.state, b"abc");
     calls::end(state);
     say::text(b"  digest of \"abc\": ");
-    calls::digest(number, b"abc", 32);
+    calls::digest(hash_number, b"abc", 32);
 }
 
 // States that differ from zeros in the count, in one waiting byte (none at place 128) and in the last word.
@@ -46,8 +46,8 @@ const STATES: [[u64; 3]; 17] = [
     [18446744073709551615, 128, 0],
 ];
 
-pub(crate) fn states(number: u32) {
-    let hash = made::hash_of(number);
+pub(crate) fn states(hash_number: u32) {
+    let hash = made::hash_of(hash_number);
     for i in 0..17 {
         state(hash, STATES[i]);
     }
@@ -63,8 +63,8 @@ fn state(hash: Hash, row: [u64; 3]) {
 }
 
 // One byte before the most that may be hashed.
-pub(crate) fn limit(number: u32) {
-    let s0 = made::own(made::hash_of(number), 4294967294);
+pub(crate) fn limit(hash_number: u32) {
+    let s0 = made::own(made::hash_of(hash_number), 4294967294);
     say::state(s0);
     let s1 = calls::update(s0, b"ab");
     let s2 = calls::update(s1, b"a");
@@ -78,29 +78,29 @@ pub(crate) fn limit(number: u32) {
 const SIZES: [usize; 7] = [0, 31, 32, 33, 63, 64, 65];
 
 // Outputs of other sizes than a digest's. An unknown hash and an unsound state are refused before the size is.
-pub(crate) fn sizes(number: u32) {
+pub(crate) fn sizes(hash_number: u32) {
     for i in 0..7 {
-        digest_size(number, SIZES[i]);
-        finish_size(number, SIZES[i]);
+        digest_size(hash_number, SIZES[i]);
+        finish_size(hash_number, SIZES[i]);
     }
 }
 
-fn digest_size(number: u32, size: usize) {
-    say::hash(made::hash_of(number));
+fn digest_size(hash_number: u32, size: usize) {
+    say::hash(made::hash_of(hash_number));
     say::text(b" of \"abc\" into ");
     say::number(size as u64);
     say::text(b" bytes: ");
-    calls::digest(number, b"abc", size);
+    calls::digest(hash_number, b"abc", size);
     say::text(b"  for hash 3: ");
     calls::digest(3, b"abc", size);
 }
 
-fn finish_size(number: u32, size: usize) {
-    let started = hash::start(number);
+fn finish_size(hash_number: u32, size: usize) {
+    let started = hash::start(hash_number);
     let fed = hash::update(started.state, b"abc");
     say::text(b"  by finish: ");
     calls::finish(fed.state, size);
-    let bad = made::nearly_zero(made::hash_of(number), 0, 0, 0);
+    let bad = made::nearly_zero(made::hash_of(hash_number), 0, 0, 0);
     say::text(b"  by finish of a state that is not sound: ");
     calls::finish(bad, size);
 }
@@ -108,15 +108,15 @@ fn finish_size(number: u32, size: usize) {
 const COUNTS: [u64; 5] = [0, 1, 64, 128, 1000];
 
 // States with words of their own go on from them.
-pub(crate) fn going_on(number: u32) {
+pub(crate) fn going_on(hash_number: u32) {
     for i in 0..5 {
-        from_own(number, COUNTS[i]);
+        from_own(hash_number, COUNTS[i]);
     }
 }
 
 // A state goes on after its end was asked for.
-fn from_own(number: u32, count: u64) {
-    let s = made::own(made::hash_of(number), count);
+fn from_own(hash_number: u32, count: u64) {
+    let s = made::own(made::hash_of(hash_number), count);
     say::state(s);
     calls::end(s);
     let next = calls::update(s, b"abc");

@@ -16,44 +16,44 @@ fn head(hash: Hash, name: &[u8], size: usize) {
     say::text(b", ");
 }
 
-fn in_one_call(number: u32, name: &[u8], message: &[u8]) {
-    let hash = made::hash_of(number);
+fn in_one_call(hash_number: u32, name: &[u8], message: &[u8]) {
+    let hash = made::hash_of(hash_number);
     head(hash, name, message.len());
     say::text(b"in one call: ");
-    calls::digest(number, message, algorithm::digest_size(hash));
+    calls::digest(hash_number, message, algorithm::digest_size(hash));
 }
 
-fn in_a_way(number: u32, name: &[u8], message: &[u8], way: usize) {
-    let hash = made::hash_of(number);
+fn in_a_way(hash_number: u32, name: &[u8], message: &[u8], way: usize) {
+    let hash = made::hash_of(hash_number);
     head(hash, name, message.len());
     ways::name(way);
     say::text(b": ");
-    let started = hash::start(number);
+    let started = hash::start(hash_number);
     let state = ways::after(started.state, message, way);
     calls::finish(state, algorithm::digest_size(hash));
 }
 
 // A message in one call, and in every way for short messages.
-fn each(number: u32, name: &[u8], message: &[u8]) {
-    in_one_call(number, name, message);
+fn each(hash_number: u32, name: &[u8], message: &[u8]) {
+    in_one_call(hash_number, name, message);
     for way in 0..ways::THOUSANDS {
-        in_a_way(number, name, message, way);
+        in_a_way(hash_number, name, message, way);
     }
 }
 
 // The examples of FIPS 180-4 and the empty message.
-pub(crate) fn published(number: u32) {
-    each(number, b"the empty message", b"");
-    each(number, b"\"abc\"", b"abc");
-    if number == 1 {
+pub(crate) fn published(hash_number: u32) {
+    each(hash_number, b"the empty message", b"");
+    each(hash_number, b"\"abc\"", b"abc");
+    if hash_number == 1 {
         each(
-            number,
+            hash_number,
             b"the message of two blocks",
             b"abcdbcdecdefdefgefghfghighijhijkijkljklmklmnlmnomnopnopq",
         );
     } else {
         each(
-            number,
+            hash_number,
             b"the message of two blocks",
             b"abcdefghbcdefghicdefghijdefghijkefghijklfghijklmghijklmnhijklmnoijklmnopjklmnopqklmnopqrlmnopqrsmnopqrstnopqrstu",
         );
@@ -61,16 +61,16 @@ pub(crate) fn published(number: u32) {
 }
 
 // A million letters a.
-pub(crate) fn million(number: u32) {
+pub(crate) fn million(hash_number: u32) {
     let letters = [97u8; 1000000];
-    of_letters(number, &letters);
+    of_letters(hash_number, &letters);
 }
 
-fn of_letters(number: u32, letters: &[u8; 1000000]) {
+fn of_letters(hash_number: u32, letters: &[u8; 1000000]) {
     let name = b"a million letters a";
-    in_one_call(number, name, letters);
-    in_a_way(number, name, letters, ways::WHOLE);
-    in_a_way(number, name, letters, ways::THOUSANDS);
+    in_one_call(hash_number, name, letters);
+    in_a_way(hash_number, name, letters, ways::WHOLE);
+    in_a_way(hash_number, name, letters, ways::THOUSANDS);
 }
 
 const LENGTHS: [usize; 17] = [
@@ -104,15 +104,15 @@ fn pattern() -> [u8; 257]
     bytes
 }
 
-pub(crate) fn lengths(number: u32) {
+pub(crate) fn lengths(hash_number: u32) {
     for i in 0..17 {
-        of_length(number, LENGTHS[i]);
+        of_length(hash_number, LENGTHS[i]);
     }
 }
 
-fn of_length(number: u32, n: usize) {
+fn of_length(hash_number: u32, n: usize) {
     let bytes = pattern();
     if n <= 257 {
-        each(number, b"the pattern", &bytes[0..n]);
+        each(hash_number, b"the pattern", &bytes[0..n]);
     }
 }

@@ -9,8 +9,8 @@ fn tag_to(keyed: Keyed, tag_length: usize, out: &mut [u8]) {
     say::answer(answered, out);
 }
 
-fn tag_message_to(number: u32, key: &[u8], message: &[u8], tag_length: usize, out: &mut [u8]) {
-    let answered = hmac::tag_message(number, key, message, tag_length, out);
+fn tag_message_to(hash_number: u32, key: &[u8], message: &[u8], tag_length: usize, out: &mut [u8]) {
+    let answered = hmac::tag_message(hash_number, key, message, tag_length, out);
     say::answer(answered, out);
 }
 
@@ -22,10 +22,16 @@ pub(crate) fn tag(keyed: Keyed, tag_length: usize, size: usize) {
     }
 }
 
-pub(crate) fn tag_message(number: u32, key: &[u8], message: &[u8], tag_length: usize, size: usize) {
+pub(crate) fn tag_message(
+    hash_number: u32,
+    key: &[u8],
+    message: &[u8],
+    tag_length: usize,
+    size: usize,
+) {
     let mut out = [0xa5u8; 66];
     if size <= 66 {
-        tag_message_to(number, key, message, tag_length, &mut out[0..size]);
+        tag_message_to(hash_number, key, message, tag_length, &mut out[0..size]);
     }
 }
 
@@ -36,13 +42,13 @@ pub(crate) fn verify(keyed: Keyed, tag_length: usize, presented: &[u8]) {
 }
 
 pub(crate) fn verify_message(
-    number: u32,
+    hash_number: u32,
     key: &[u8],
     message: &[u8],
     tag_length: usize,
     presented: &[u8],
 ) {
-    let answered = hmac::verify_message(number, key, message, tag_length, presented);
+    let answered = hmac::verify_message(hash_number, key, message, tag_length, presented);
     say::number(answered as u64);
     say::text(b"\n");
 }

@@ -41,15 +41,15 @@ const ROWS: [[usize; 3]; 32] = [
     [65, 65, 64],
 ];
 
-pub(crate) fn rows(number: u32) {
+pub(crate) fn rows(hash_number: u32) {
     for i in 0..32 {
-        row(number, ROWS[i]);
+        row(hash_number, ROWS[i]);
     }
 }
 
 // Of the message "abc" under the key "Jefe".
-fn row(number: u32, row: [usize; 3]) {
-    let started = hmac::start(number, b"Jefe");
+fn row(hash_number: u32, row: [usize; 3]) {
+    let started = hmac::start(hash_number, b"Jefe");
     let fed = hmac::update(started.keyed, b"abc");
     let full = inputs::full_tag(fed.keyed);
     let kept = row[2];
@@ -57,14 +57,14 @@ fn row(number: u32, row: [usize; 3]) {
     let size = row[1];
     let tag_length = row[0];
     if size <= 66 {
-        head(number, tag_length, size, kept);
-        by_message(number, tag_length, &bytes[0..size]);
+        head(hash_number, tag_length, size, kept);
+        by_message(hash_number, tag_length, &bytes[0..size]);
         by_state(fed.keyed, tag_length, &bytes[0..size]);
     }
 }
 
-fn head(number: u32, tag_length: usize, size: usize, kept: usize) {
-    say::hmac(made::hash_of(number));
+fn head(hash_number: u32, tag_length: usize, size: usize, kept: usize) {
+    say::hmac(made::hash_of(hash_number));
     say::text(b" of \"abc\", tag length ");
     say::number(tag_length as u64);
     say::text(b", presented ");
@@ -74,8 +74,8 @@ fn head(number: u32, tag_length: usize, size: usize, kept: usize) {
     say::text(b" unchanged: ");
 }
 
-fn by_message(number: u32, tag_length: usize, presented: &[u8]) {
-    calls::verify_message(number, b"Jefe", b"abc", tag_length, presented);
+fn by_message(hash_number: u32, tag_length: usize, presented: &[u8]) {
+    calls::verify_message(hash_number, b"Jefe", b"abc", tag_length, presented);
     say::text(b"  for hash 3: ");
     calls::verify_message(3, b"Jefe", b"abc", tag_length, presented);
 }

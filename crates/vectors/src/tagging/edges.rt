@@ -13,24 +13,24 @@ pub(crate) fn starts() {
     }
 }
 
-fn start(number: u32) {
+fn start(hash_number: u32) {
     say::text(b"start for hash ");
-    say::number(number as u64);
+    say::number(hash_number as u64);
     say::text(b": ");
-    let started = hmac::start(number, b"Jefe");
+    let started = hmac::start(hash_number, b"Jefe");
     say::number(started.number as u64);
     say::text(b", ");
     say::keyed(started.keyed);
     going_on(started.keyed);
-    in_one_call(number);
+    in_one_call(hash_number);
 }
 
-fn in_one_call(number: u32) {
+fn in_one_call(hash_number: u32) {
     say::text(b"  tag_message of \"abc\": ");
-    calls::tag_message(number, b"Jefe", b"abc", 32, 32);
+    calls::tag_message(hash_number, b"Jefe", b"abc", 32, 32);
     let presented = [0u8; 32];
     say::text(b"  verify_message of \"abc\" with zeros: ");
-    calls::verify_message(number, b"Jefe", b"abc", 32, &presented);
+    calls::verify_message(hash_number, b"Jefe", b"abc", 32, &presented);
 }
 
 // What a keyed state answers, before and after a piece.
@@ -44,29 +44,29 @@ fn going_on(keyed: Keyed) {
 const KEYS: [usize; 9] = [0, 1, 63, 64, 65, 127, 128, 129, 300];
 
 // Keys of lengths around a block's.
-pub(crate) fn keys(number: u32) {
+pub(crate) fn keys(hash_number: u32) {
     for i in 0..9 {
-        key_of(number, KEYS[i]);
+        key_of(hash_number, KEYS[i]);
     }
 }
 
-fn key_of(number: u32, n: usize) {
+fn key_of(hash_number: u32, n: usize) {
     let bytes = inputs::pattern();
     if n <= 300 {
-        under(number, &bytes[0..n]);
+        under(hash_number, &bytes[0..n]);
     }
 }
 
-fn under(number: u32, key: &[u8]) {
-    let hash = made::hash_of(number);
+fn under(hash_number: u32, key: &[u8]) {
+    let hash = made::hash_of(hash_number);
     let size = algorithm::digest_size(hash);
     say::hmac(hash);
     say::text(b" of \"abc\" under a key of length ");
     say::number(key.len() as u64);
     say::text(b": ");
-    calls::tag_message(number, key, b"abc", size, size);
+    calls::tag_message(hash_number, key, b"abc", size, size);
     say::text(b"  start: ");
-    let started = hmac::start(number, key);
+    let started = hmac::start(hash_number, key);
     say::number(started.number as u64);
     say::text(b", ");
     say::keyed(started.keyed);
@@ -102,8 +102,8 @@ const STATES: [[u64; 4]; 24] = [
     [18446744073709551615, 128, 0, 0],
 ];
 
-pub(crate) fn states(number: u32) {
-    let hash = made::hash_of(number);
+pub(crate) fn states(hash_number: u32) {
+    let hash = made::hash_of(hash_number);
     for i in 0..24 {
         state(hash, STATES[i]);
     }
@@ -117,8 +117,8 @@ fn state(hash: Hash, row: [u64; 4]) {
 }
 
 // One byte before the most that may be hashed, under outer words of its own, 9 to 16.
-pub(crate) fn limit(number: u32) {
-    let inner = made::own(made::hash_of(number), 4294967294);
+pub(crate) fn limit(hash_number: u32) {
+    let inner = made::own(made::hash_of(hash_number), 4294967294);
     let k0 = made::keyed(inner, [9, 10, 11, 12, 13, 14, 15, 16]);
     say::keyed(k0);
     let k1 = calls::update(k0, b"ab");

@@ -42,10 +42,10 @@ pub(crate) fn full_tag(keyed: Keyed) -> [u8; 66] {
 }
 
 // A tag of a message, of some length, with a5 after it, and a5 everywhere where it is refused.
-pub(crate) fn tag_of(number: u32, key: &[u8], message: &[u8], size: usize) -> [u8; 66] {
+pub(crate) fn tag_of(hash_number: u32, key: &[u8], message: &[u8], size: usize) -> [u8; 66] {
     let mut out = [0xa5u8; 66];
     if size <= 66 {
-        hmac::tag_message(number, key, message, size, &mut out[0..size]);
+        hmac::tag_message(hash_number, key, message, size, &mut out[0..size]);
     }
     out
 }

@@ -5,34 +5,34 @@ use crate::tagging::calls;
 use crate::tagging::inputs;
 use hmac::Keyed;
 
-fn head(number: u32, name: &[u8]) {
-    say::hmac(made::hash_of(number));
+fn head(hash_number: u32, name: &[u8]) {
+    say::hmac(made::hash_of(hash_number));
     say::text(b" of RFC 4231's ");
     say::text(name);
     say::text(b", ");
 }
 
-fn in_one_call(number: u32, name: &[u8], key: &[u8], message: &[u8], size: usize) {
-    head(number, name);
+fn in_one_call(hash_number: u32, name: &[u8], key: &[u8], message: &[u8], size: usize) {
+    head(hash_number, name);
     say::text(b"in one call: ");
-    calls::tag_message(number, key, message, size, size);
+    calls::tag_message(hash_number, key, message, size, size);
 }
 
-fn verified(number: u32, name: &[u8], key: &[u8], message: &[u8], size: usize) {
-    let tag = inputs::tag_of(number, key, message, size);
-    head(number, name);
+fn verified(hash_number: u32, name: &[u8], key: &[u8], message: &[u8], size: usize) {
+    let tag = inputs::tag_of(hash_number, key, message, size);
+    head(hash_number, name);
     say::text(b"verified: ");
-    presented(number, key, message, &tag, size);
-    head(number, name);
+    presented(hash_number, key, message, &tag, size);
+    head(hash_number, name);
     say::text(b"verified with the first byte changed: ");
     let other = inputs::changed(tag);
-    presented(number, key, message, &other, size);
+    presented(hash_number, key, message, &other, size);
 }
 
 // So many first bytes of a tag.
-fn presented(number: u32, key: &[u8], message: &[u8], tag: &[u8], size: usize) {
+fn presented(hash_number: u32, key: &[u8], message: &[u8], tag: &[u8], size: usize) {
     if size <= tag.len() {
-        calls::verify_message(number, key, message, size, &tag[0..size]);
+        calls::verify_message(hash_number, key, message, size, &tag[0..size]);
     }
 }
 
@@ -45,11 +45,11 @@ fn refused(keyed: Keyed, piece: &[u8]) -> Keyed {
     inputs::with_last(handed, 0)
 }
 
-fn with_refused(number: u32, name: &[u8], key: &[u8], message: &[u8], size: usize) {
-    head(number, name);
+fn with_refused(hash_number: u32, name: &[u8], key: &[u8], message: &[u8], size: usize) {
+    head(hash_number, name);
     say::text(b"cut in the middle with a refused piece between: ");
     let at = message.len() / 2;
-    let started = hmac::start(number, key);
+    let started = hmac::start(hash_number, key);
     let first = hmac::update(started.keyed, &message[0..at]);
     let keyed = refused(first.keyed, &message[at..]);
     let second = hmac::update(keyed, &message[at..]);
@@ -67,56 +67,67 @@ fn each_byte(keyed: Keyed, message: &[u8]) -> Keyed {
     k
 }
 
-fn byte_by_byte(number: u32, name: &[u8], key: &[u8], message: &[u8], size: usize) {
-    head(number, name);
+fn byte_by_byte(hash_number: u32, name: &[u8], key: &[u8], message: &[u8], size: usize) {
+    head(hash_number, name);
     say::text(b"byte by byte: ");
-    let started = hmac::start(number, key);
+    let started = hmac::start(hash_number, key);
     let keyed = each_byte(started.keyed, message);
     calls::tag(keyed, size, size);
 }
 
-fn asked_between(number: u32, name: &[u8], key: &[u8], message: &[u8], size: usize) {
+fn asked_between(hash_number: u32, name: &[u8], key: &[u8], message: &[u8], size: usize) {
     let at = message.len() / 2;
-    let started = hmac::start(number, key);
+    let started = hmac::start(hash_number, key);
     let first = hmac::update(started.keyed, &message[0..at]);
-    head(number, name);
+    head(hash_number, name);
     say::text(b"the tag of the first half: ");
     calls::tag(first.keyed, size, size);
     let second = hmac::update(first.keyed, &message[at..]);
-    head(number, name);
+    head(hash_number, name);
     say::text(b"the tag after the second half: ");
     calls::tag(second.keyed, size, size);
 }
 
-fn each(number: u32, name: &[u8], key: &[u8], message: &[u8], size: usize) {
-    in_one_call(number, name, key, message, size);
-    verified(number, name, key, message, size);
-    with_refused(number, name, key, message, size);
-    byte_by_byte(number, name, key, message, size);
-    asked_between(number, name, key, message, size);
+fn each(hash_number: u32, name: &[u8], key: &[u8], message: &[u8], size: usize) {
+    in_one_call(hash_number, name, key, message, size);
+    verified(hash_number, name, key, message, size);
+    with_refused(hash_number, name, key, message, size);
+    byte_by_byte(hash_number, name, key, message, size);
+    asked_between(hash_number, name, key, message, size);
 }
 
-fn with_full_tag(number: u32, name: &[u8], key: &[u8], message: &[u8]) {
-    let hash = made::hash_of(number);
-    each(number, name, key, message, algorithm::digest_size(hash));
+fn with_full_tag(hash_number: u32, name: &[u8], key: &[u8], message: &[u8]) {
+    let hash = made::hash_of(hash_number);
+    each(
+        hash_number,
+        name,
+        key,
+        message,
+        algorithm::digest_size(hash),
+    );
 }
 
-fn case_1(number: u32) {
+fn case_1(hash_number: u32) {
     let key = [0x0bu8; 20];
-    with_full_tag(number, b"case 1", &key, b"Hi There");
+    with_full_tag(hash_number, b"case 1", &key, b"Hi There");
 }
 
-fn case_2(number: u32) {
-    with_full_tag(number, b"case 2", b"Jefe", b"what do ya want for nothing?");
+fn case_2(hash_number: u32) {
+    with_full_tag(
+        hash_number,
+        b"case 2",
+        b"Jefe",
+        b"what do ya want for nothing?",
+    );
 }
 
-fn case_3(number: u32) {
+fn case_3(hash_number: u32) {
     let key = [0xaau8; 20];
     let message = [0xddu8; 50];
-    with_full_tag(number, b"case 3", &key, &message);
+    with_full_tag(hash_number, b"case 3", &key, &message);
 }
 
-fn case_4(number: u32) {
+fn case_4(hash_number: u32) {
     let key: [u8; 25] = [
         1,
         2,
@@ -145,45 +156,45 @@ fn case_4(number: u32) {
         25,
     ];
     let message = [0xcdu8; 50];
-    with_full_tag(number, b"case 4", &key, &message);
+    with_full_tag(hash_number, b"case 4", &key, &message);
 }
 
 // The RFC prints 16 bytes of the tag: a tag that hash 1 gives and hash 2 does not.
-fn case_5(number: u32) {
+fn case_5(hash_number: u32) {
     let key = [0x0cu8; 20];
-    if number == 1 {
-        each(number, b"case 5", &key, b"Test With Truncation", 16);
+    if hash_number == 1 {
+        each(hash_number, b"case 5", &key, b"Test With Truncation", 16);
     } else {
-        with_full_tag(number, b"case 5", &key, b"Test With Truncation");
+        with_full_tag(hash_number, b"case 5", &key, b"Test With Truncation");
     }
 }
 
-fn case_6(number: u32) {
+fn case_6(hash_number: u32) {
     let key = [0xaau8; 131];
     with_full_tag(
-        number,
+        hash_number,
         b"case 6",
         &key,
         b"Test Using Larger Than Block-Size Key - Hash Key First",
     );
 }
 
-fn case_7(number: u32) {
+fn case_7(hash_number: u32) {
     let key = [0xaau8; 131];
     with_full_tag(
-        number,
+        hash_number,
         b"case 7",
         &key,
         b"This is a test using a larger than block-size key and a larger than block-size data. The key needs to be hashed before being used by the HMAC algorithm.",
     );
 }
 
-pub(crate) fn cases(number: u32) {
-    case_1(number);
-    case_2(number);
-    case_3(number);
-    case_4(number);
-    case_5(number);
-    case_6(number);
-    case_7(number);
+pub(crate) fn cases(hash_number: u32) {
+    case_1(hash_number);
+    case_2(hash_number);
+    case_3(hash_number);
+    case_4(hash_number);
+    case_5(hash_number);
+    case_6(hash_number);
+    case_7(hash_number);
 }

@@ -36,34 +36,34 @@ const ROWS: [[usize; 2]; 28] = [
     [65, 65],
 ];
 
-pub(crate) fn rows(number: u32) {
+pub(crate) fn rows(hash_number: u32) {
     for i in 0..28 {
-        row(number, ROWS[i]);
+        row(hash_number, ROWS[i]);
     }
 }
 
 // An unknown hash and an unsound state are refused before the length is, and the length before the size.
-fn row(number: u32, row: [usize; 2]) {
+fn row(hash_number: u32, row: [usize; 2]) {
     let tag_length = row[0];
     let size = row[1];
-    by_message(number, tag_length, size);
-    by_state(number, tag_length, size);
+    by_message(hash_number, tag_length, size);
+    by_state(hash_number, tag_length, size);
 }
 
-fn by_message(number: u32, tag_length: usize, size: usize) {
-    say::hmac(made::hash_of(number));
+fn by_message(hash_number: u32, tag_length: usize, size: usize) {
+    say::hmac(made::hash_of(hash_number));
     say::text(b" of \"abc\", tag length ");
     say::number(tag_length as u64);
     say::text(b", into ");
     say::number(size as u64);
     say::text(b" bytes: ");
-    calls::tag_message(number, b"Jefe", b"abc", tag_length, size);
+    calls::tag_message(hash_number, b"Jefe", b"abc", tag_length, size);
     say::text(b"  for hash 3: ");
     calls::tag_message(3, b"Jefe", b"abc", tag_length, size);
 }
 
-fn by_state(number: u32, tag_length: usize, size: usize) {
-    let started = hmac::start(number, b"Jefe");
+fn by_state(hash_number: u32, tag_length: usize, size: usize) {
+    let started = hmac::start(hash_number, b"Jefe");
     let fed = hmac::update(started.keyed, b"abc");
     say::text(b"  by tag: ");
     calls::tag(fed.keyed, tag_length, size);
