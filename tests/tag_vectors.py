@@ -358,10 +358,10 @@ def comparison(number):
         (64, [(32, 32), (63, 63), (64, 16), (64, 32), (64, 63), (64, 64), (65, 64)]),
         (65, [(65, 64)]),
     ]:
-        for size, kept in rows:
-            presented = changed(full[:size], range(kept, size))
+        for size, unchanged in rows:
+            presented = changed(full[:size], range(unchanged, size))
             head = f'{name(HASHES[number])} of "abc", tag length {tag_length}'
-            head += f", presented {size} bytes, the first {kept} unchanged"
+            head += f", presented {size} bytes, the first {unchanged} unchanged"
             yield f"{head}: {verify_message(number, KEY, MESSAGE, tag_length, presented)}"
             yield f"  for hash 3: {verify_message(3, KEY, MESSAGE, tag_length, presented)}"
             yield f"  by verify: {verify(keyed, tag_length, presented)}"

@@ -11,18 +11,26 @@ ghost use Rattle.hash.specs.Sha2.{wordSize, spell};
 ghost use Rattle.hash.specs.State.{largestBlock, lastWords};
 ghost use Rattle.hash.specs.Calls.{FinishOutcome};
 ghost use Rattle.hash.specs.Inside.{paddedEnd, Ends};
+use crate::narrow;
 use crate::state::LARGEST_BLOCK;
 use crate::state::State;
+use crate::wide;
+use crate::width::Width;
+use crate::width::width_of;
 use algorithm::Hash;
 
-// The bytes of a word, of which a block has sixteen.
+// The bytes of a word.
 fn word_size(hash: Hash) -> usize
     ensures { λ r. ⌜ (r ≡ wordSize (describe hash .core)) × (r ≤ 8) ⌝ }
 {
-    algorithm::block_size(hash) / 16
+    let width = width_of(hash);
+    match width {
+        Width::Narrow => narrow::WORD,
+        Width::Wide => wide::WORD,
+    }
 }
 
-// Where the padded rest ends: at one block or at two. The length field has two words.
+// Where the padded rest ends: at one block or at two. A block has sixteen words, and the length field two.
 fn padded_end(hash: Hash, at: usize) -> usize
     requires { ⌜ at < blockOf hash ⌝ }
     ensures { λ r. ⌜ r ≡ paddedEnd (describe hash .core) at ⌝ }

@@ -12,7 +12,7 @@ ghost use Rattle.hash.specs.Blocks.{wordsAfter};
 ghost use Rattle.hash.specs.Sha2 as sha;
 
 // The bytes of a word and of a block.
-const WORD: usize = 4;
+pub(crate) const WORD: usize = 4;
 
 const BLOCK: usize = 16 * WORD;
 

@@ -11,7 +11,7 @@ ghost use Rattle.hash.specs.Blocks.{wordsAfter};
 ghost use Rattle.hash.specs.Sha2 as sha;
 
 // The bytes of a word and of a block.
-const WORD: usize = 8;
+pub(crate) const WORD: usize = 8;
 
 const BLOCK: usize = 16 * WORD;
 

@@ -62,9 +62,9 @@ pub(crate) fn update(keyed: Keyed, piece: &[u8]) -> Keyed {
 }
 
 // A line on a presented tag of which so many first bytes are unchanged.
-fn presented(keyed: Keyed, tag_length: usize, kept: usize) {
+fn presented(keyed: Keyed, tag_length: usize, unchanged: usize) {
     let full = inputs::full_tag(keyed);
-    let bytes = inputs::agreeing(full, kept);
+    let bytes = inputs::agreeing(full, unchanged);
     if tag_length <= 66 {
         verify(keyed, tag_length, &bytes[0..tag_length]);
     }

@@ -52,25 +52,25 @@ fn row(hash_number: u32, row: [usize; 3]) {
     let started = hmac::start(hash_number, b"Jefe");
     let fed = hmac::update(started.keyed, b"abc");
     let full = inputs::full_tag(fed.keyed);
-    let kept = row[2];
-    let bytes = inputs::agreeing(full, kept);
+    let unchanged = row[2];
+    let bytes = inputs::agreeing(full, unchanged);
     let size = row[1];
     let tag_length = row[0];
     if size <= 66 {
-        head(hash_number, tag_length, size, kept);
+        head(hash_number, tag_length, size, unchanged);
         by_message(hash_number, tag_length, &bytes[0..size]);
         by_state(fed.keyed, tag_length, &bytes[0..size]);
     }
 }
 
-fn head(hash_number: u32, tag_length: usize, size: usize, kept: usize) {
+fn head(hash_number: u32, tag_length: usize, size: usize, unchanged: usize) {
     say::hmac(made::hash_of(hash_number));
     say::text(b" of \"abc\", tag length ");
     say::number(tag_length as u64);
     say::text(b", presented ");
     say::number(size as u64);
     say::text(b" bytes, the first ");
-    say::number(kept as u64);
+    say::number(unchanged as u64);
     say::text(b" unchanged: ");
 }
 

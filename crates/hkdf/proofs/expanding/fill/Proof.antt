@@ -1,5 +1,5 @@
--- `hkdf::expanding::fill`. The loop's invariant: the blocks T(1) to T(i) stand over the output, and the last one is kept. The measure
--- is what is left of the output. Assumes nothing.
+-- `hkdf::expanding::fill`. The loop's invariant: the blocks T(1) to T(i) stand over the output, and the last one stands in the block.
+-- The measure is what is left of the output. Assumes nothing.
 use mathlib.Core.Path.{_≡_, refl, sym, ap, _∙_}
 use mathlib.Core.List.{List}
 use Prim.Native.Nat.{ℕ, _+_, _-_, _*_, _≤_, _<_}
@@ -91,7 +91,7 @@ stretch-requires c κs =
 
 slice-aggregate-copy-prefix : tie.Need-slice-aggregate-copy-prefix Inv-loop μ-loop
 slice-aggregate-copy-prefix c =
-    let wide : length (c .before .before .stretch .result) ≡ 64 = search needs in
+    let whole : length (c .before .before .stretch .result) ≡ 64 = search needs in
     sym (length-take-le (c .before .before .before .before .before .before .digest-size .result) (c .before .before .stretch .result) (omega arith))
 
 loop-again : tie.Need-loop-again Inv-loop μ-loop
@@ -107,7 +107,7 @@ loop-again c =
     let less : l .i < mostDigests = below (l .i) size (length o) (omega arith) (v .room) in
     let T = stretch h prk info (l .i + 1) in
     let n : length T ≡ size = stretch-length h prk info (l .i) ∙ sym (v .size-is) in
-    let kept : take size (c .before .before .before .before .before .stretch .result) ≡ T =
+    let written : take size (c .before .before .before .before .before .stretch .result) ≡ T =
     ap (take size) (next-block h prk (c .before .before .before .before .before .before .before .before .before .before .start .ensures) info (l .i) (v .last) (c .before .before .before .before .before .stretch .ensures)) ∙ take-whole 64 size T n
     in
     let place : l .at ≡ length (stretches h prk info (l .i)) =
@@ -115,7 +115,7 @@ loop-again c =
     in
     let copy = c .before .before .copy-prefix in
     let is = lent-more (stretches h prk info (l .i)) T o place (omega arith) (v .is)
-    (copy .ensures ∙ ap (λ (x : List ℕ). over x (take (length (l .out) - l .at) (drop (l .at) (l .out)))) kept)
+    (copy .ensures ∙ ap (λ (x : List ℕ). over x (take (length (l .out) - l .at) (drop (l .at) (l .out)))) written)
     ∙ ap (λ (x : List ℕ). over x o) (sym (stretches-more h prk info (l .i)))
     in
     record {
@@ -129,7 +129,7 @@ loop-again c =
       bound = omega arith;
       block-size = search needs;
       fits = omega arith;
-      last = kept;
+      last = written;
       is = is;
     }
 
