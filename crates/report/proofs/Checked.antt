@@ -11,10 +11,10 @@ use Rattle.algorithm.specs.Refusals.{done}
 use Rattle.algorithm.specs.Checks.{firstFailing}
 use Rattle.algorithm.specs.Checks.Laws.{done-work}
 use Rattle.report.specs.Layout.{liveOf}
-use Rattle.report.specs.Reading.{hashIn, tagSizeIn, tagStart, sitesIn, readChecks, Passed}
+use Rattle.report.specs.Reading.{hashIn, tagSizeIn, tagStart, sitesIn, readChecks}
+use Rattle.report.specs.Inside.{Passed, checkedOf}
 use Rattle.report.specs.Reading.Laws.{passed}
 use Rattle.report.specs.Calls.Laws.{report-hash}
-use Rattle.report.specs.Inside.{checkedOf}
 use Rattle.report.specs.declared.checks.Checked.{Checked}
 
 -- it passed, and this was found out

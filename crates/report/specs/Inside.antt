@@ -1,22 +1,47 @@
--- Private: what the private functions ask and promise. Assumes nothing.
+-- Private: what the private functions ask and promise, and what the laws on the way to the calls speak of. Assumes nothing.
 use mathlib.Core.Path.{_≡_}
-use mathlib.Core.Bool.{Bool, true, cond}
-use mathlib.Core.List.{List, _++_}
+use mathlib.Core.Bool.{Bool, true, cond, _&&_}
+use mathlib.Core.List.{List, _∷_, _++_}
 use Prim.Native.Nat.{ℕ, suc, _+_, _-_, _*_, _^_, _≤_, _<_}
+use lib.Dec.{leb}
 use lib.ListN.{length, take, drop, getD}
-use Rattle.octets.specs.Number.{numberAt}
+use Rattle.octets.specs.Number.{numberAt, bytes}
+use Rattle.octets.specs.Sums.{largestTotal}
 use Rattle.octets.specs.declared.sums.Sum.{Sum}
 use Rattle.algorithm.specs.Hashes.{names, hashOf, blockOf, sizeOf}
 use Rattle.algorithm.specs.Refusals.{done, sitesMisplaced, sumTooLarge, mostBytes}
 use Rattle.algorithm.specs.Checks.{Check, firstFailing, decided}
-use Rattle.report.specs.Layout.{Site, liveOf}
-use Rattle.report.specs.Reading.{namesHash, tagStart, withSite, readSites, sitesIn, startChecks, hashChecks, sitesChecks, readChecks, fieldsOf, noFields}
+use Rattle.report.specs.Layout.{Site, Fields, sitesBytes, smallestReport, liveOf}
+use Rattle.report.specs.Reading.{namesHash, tagSizeIn, tagStart, firstSite, withSite, readSites, sitesIn, startChecks, hashChecks, sitesChecks, readChecks, fieldsOf, noFields}
 use Rattle.report.specs.Calls.{readingOf, siteOf, before}
 use Rattle.report.specs.declared.walk.Step.{Step}
 use Rattle.report.specs.declared.walk.Counted.{Counted}
 use Rattle.report.specs.declared.checks.Head.{Head}
 use Rattle.report.specs.declared.checks.Checked.{Checked}
 use Rattle.report.specs.declared.reading.Reading.{Reading}
+
+-- sites that are not refused, of which one is the first
+pub record First (n size : ℕ) (l : List ℕ) : Type 0 where
+  pub range : (leb 1 size && leb size 48) ≡ true
+  pub room : size + 12 ≤ length l
+  pub is : readSites (suc n) (size ∷ l) ≡ withSite (firstSite size l) (readSites n (drop (size + 12) l))
+  pub rest : readSites n (drop (size + 12) l) .0 ≡ done
+
+-- what the fields after the send time spell
+abbrev pub afterSent : Fields → List ℕ
+afterSent f = bytes 1 (f .attempt) ++ (bytes 8 (f .memory) ++ (bytes 2 (length (f .sites)) ++ sitesBytes (f .sites)))
+
+-- what a report has that reading lets pass
+pub record Passed (s : List ℕ) : Type 0 where
+  pub long : smallestReport ≤ length s
+  pub count : numberAt s 0 4 ≡ length s - 4
+  pub version : numberAt s 4 1 ≡ 1
+  pub known : namesHash (numberAt s 5 1) ≡ true
+  pub tag-fits : 45 + tagSizeIn s ≤ length s
+  pub few : numberAt s 43 2 ≤ 64
+  pub placed : sitesIn s .0 ≡ done
+  pub live : liveOf (sitesIn s .1) ≤ largestTotal
+  pub sites : length (sitesIn s .1) ≡ numberAt s 43 2
 
 -- a number is that of some bytes from a place on, and so has so many bits
 pub record NumberIs (s : List ℕ) (at size n : ℕ) : Type 0 where

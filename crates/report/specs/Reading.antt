@@ -4,10 +4,10 @@ pub mod Laws
 use mathlib.Core.Path.{_≡_}
 use mathlib.Core.Bool.{Bool, true, cond, _&&_, _||_}
 use mathlib.Core.List.{List, [], _∷_, _++_}
-use Prim.Native.Nat.{ℕ, zero, suc, _+_, _-_, _≤_}
+use Prim.Native.Nat.{ℕ, zero, suc, _+_, _-_}
 use lib.Dec.{leb, eqb}
 use lib.ListN.{length, take, drop}
-use Rattle.octets.specs.Number.{numberAt, bytes}
+use Rattle.octets.specs.Number.{numberAt}
 use Rattle.octets.specs.Every.{allBytes}
 use Rattle.octets.specs.Sums.{largestTotal}
 use Rattle.algorithm.specs.declared.hashes.Hash.{Hash}
@@ -16,7 +16,7 @@ use Rattle.algorithm.specs.declared.hashes.Named.{Named}
 use Rattle.algorithm.specs.declared.hashes.Named.the-variants.{Is, Unknown}
 use Rattle.algorithm.specs.Refusals.{done, unknownHash, wrongReportLength, unknownVersion, tooManySites, labelLengthOutOfRange, sitesMisplaced, sumTooLarge}
 use Rattle.algorithm.specs.Checks.{Check, check, firstFailing, decided}
-use Rattle.report.specs.Layout.{Site, Fields, sitesBytes, tagSize, smallestReport, liveOf}
+use Rattle.report.specs.Layout.{Site, Fields, tagSize, smallestReport, liveOf}
 
 -- the hash that a report names by a number: its own list, whatever other calls make
 abbrev pub namesHash : ℕ → Bool
@@ -119,26 +119,3 @@ readOf s = (firstFailing (readChecks s), decided (readChecks s) (fieldsOf s) noF
 pub record WellFormed (s : List ℕ) : Type 0 where
   pub bytes : allBytes s ≡ true
   pub reads : readOf s .0 ≡ done
-
--- sites that are not refused, of which one is the first
-pub record First (n size : ℕ) (l : List ℕ) : Type 0 where
-  pub range : (leb 1 size && leb size 48) ≡ true
-  pub room : size + 12 ≤ length l
-  pub is : readSites (suc n) (size ∷ l) ≡ withSite (firstSite size l) (readSites n (drop (size + 12) l))
-  pub rest : readSites n (drop (size + 12) l) .0 ≡ done
-
--- what the fields after the send time spell
-abbrev pub afterSent : Fields → List ℕ
-afterSent f = bytes 1 (f .attempt) ++ (bytes 8 (f .memory) ++ (bytes 2 (length (f .sites)) ++ sitesBytes (f .sites)))
-
--- what a report has that reading lets pass
-pub record Passed (s : List ℕ) : Type 0 where
-  pub long : smallestReport ≤ length s
-  pub count : numberAt s 0 4 ≡ length s - 4
-  pub version : numberAt s 4 1 ≡ 1
-  pub known : namesHash (numberAt s 5 1) ≡ true
-  pub tag-fits : 45 + tagSizeIn s ≤ length s
-  pub few : numberAt s 43 2 ≤ 64
-  pub placed : sitesIn s .0 ≡ done
-  pub live : liveOf (sitesIn s .1) ≤ largestTotal
-  pub sites : length (sitesIn s .1) ≡ numberAt s 43 2

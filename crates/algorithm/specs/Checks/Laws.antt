@@ -102,9 +102,12 @@ done-work cs work given e = rw e
 pub refused-given {ℓ} : {A : Type ℓ} (cs : List Check) (work given : A) → (firstFailing cs ≡ done → ⊥) → decided cs work given ≡ given
 refused-given cs work given z = rw (ne-eqb (firstFailing cs) done z)
 
-pub answered-refused : (cs : List Check) (work given : List ℕ) {n : ℕ} → n ≡ firstFailing cs → (n ≡ done → ⊥)
-    → answered cs work given ≡ written n given
-answered-refused cs work given {n} e z = rw (← e, ne-eqb n done z)
+module _ (cs : List Check) (work given : List ℕ) where
+  pub answered-refused : (n : ℕ) → firstFailing cs ≡ n → (n ≡ done → ⊥) → answered cs work given ≡ written n given
+  answered-refused n e z = λ i. (e i, refused-given cs work given (λ d. z (sym e ∙ d)) i)
+
+  pub answered-done : firstFailing cs ≡ done → answered cs work given ≡ written done work
+  answered-done e = λ i. (e i, done-work cs work given e i)
 
 -- no second outcome: what meets the equation of a call is one
 pub one-outcome {ℓ} : {A : Type ℓ} {a b outcome : A} → a ≡ outcome → b ≡ outcome → a ≡ b

@@ -75,7 +75,7 @@ module _ (k : Keyed) (t : ℕ) (bytes : List ℕ) where
   module _ {r : ℕ} (e : r ≡ firstFailing (tagChecks k t bytes)) (refusal : r ≡ done → ⊥) where
     pub tag-refused : tagAnswer k t bytes ≡ written r bytes
     unfolding tagAnswer
-    tag-refused = answered-refused (tagChecks k t bytes) (take t (fullTag k)) bytes e refusal
+    tag-refused = answered-refused (tagChecks k t bytes) (take t (fullTag k)) bytes _ (sym e) refusal
 
     pub verify-refused : verifyAnswer k t bytes ≡ r
     unfolding verifyAnswer
@@ -117,7 +117,7 @@ module _ (n : ℕ) (key m : List ℕ) (t : ℕ) (bytes : List ℕ) where
     pub tag-message-refused : tagMessageAnswer n key m t bytes ≡ written r bytes
     unfolding tagMessageAnswer
     tag-message-refused =
-        answered-refused (messageChecks n key m t bytes) (tagOf (hashOf n) key t m) bytes (refuses-first (lengthChecks (hashOf n) t bytes)) refusal
+        answered-refused (messageChecks n key m t bytes) (tagOf (hashOf n) key t m) bytes _ (sym (refuses-first (lengthChecks (hashOf n) t bytes))) refusal
 
     pub verify-message-refused : verifyMessageAnswer n key m t bytes ≡ r
     unfolding verifyMessageAnswer

@@ -22,19 +22,19 @@ use Rattle.algorithm.specs.declared.hashes.Named.the-variants.{Is, Unknown}
 use Rattle.algorithm.specs.Hashes.{names, hashOf, sizeOf}
 use Rattle.algorithm.specs.Hashes.Laws.{unknown, known}
 use Rattle.algorithm.specs.Refusals.{done, tagDiffers, unknownHash, keyTooLong, wrongSize, prkTooShort, noSuchSite, mostBytes}
-use Rattle.algorithm.specs.Checks.{Check, check, firstFailing, Pass, Refusing, Fail, written, answered}
+use Rattle.algorithm.specs.Checks.{Check, check, firstFailing, Pass, Refusing, Fail, written}
 use Rattle.algorithm.specs.Checks.Pass.{all, and}
 use Rattle.algorithm.specs.Checks.Refusing.{none}
-use Rattle.algorithm.specs.Checks.Laws.{exactly, exactly-done, done-passes, refuses, pass-append, append-refuses, append-passes, refusing-append, refused-given, done-work}
+use Rattle.algorithm.specs.Checks.Laws.{exactly, exactly-done, done-passes, refuses, pass-append, append-refuses, append-passes, refusing-append, answered-refused, answered-done}
 use Rattle.hmac.specs.Hmac.{tagOf}
 use Rattle.hmac.specs.Calls.{allowed, compareChecks}
 use Rattle.hmac.specs.Calls.Laws.{compared-done}
-use Rattle.report.specs.Reading.{namesHash, hashNamed, namedIn, hashIn, tagSizeIn, tagStart, beforeTag, firstSite, readSites, sitesIn, readChecks, fieldsOf, readOf, First, Passed}
+use Rattle.report.specs.Reading.{namesHash, hashNamed, namedIn, hashIn, tagSizeIn, tagStart, beforeTag, firstSite, readSites, sitesIn, readChecks, fieldsOf, readOf}
+use Rattle.report.specs.Inside.{First, Passed, siteHere, Stands, bodySites, refusedReading, headReading}
 use Rattle.report.specs.Reading.Laws.{read-refusing, first, passed, passes, passes-then}
 use Rattle.report.specs.Fingerprint.{fingerprintOf}
 use Rattle.report.specs.Keys.{keysOf}
 use Rattle.report.specs.Layout.{Site, tagSize, liveOf}
-use Rattle.report.specs.Inside.{siteHere, Stands, bodySites, refusedReading, headReading}
 use Rattle.report.specs.declared.sites.SiteAt.{SiteAt}
 use Rattle.report.specs.Calls.{readingOf, numbersOf, readIntoChecks, readIntoAnswer, siteNumbers, siteIntoChecks, siteIntoAnswer, siteOf, before, foundSite, refusedSite, Points, placeChecks, siteAnswer, labelAnswer, keyChecks, tagChecks, checkAnswer, fingerprintChecks, fingerprintAnswer, keysChecks, keysAnswer}
 
@@ -172,14 +172,6 @@ module _ (body : List ℕ) (e : bodySites body .0 ≡ done) (i : ℕ) (h : i < n
       let k : before (bodySites body .1) (i + 1) ≡ before (bodySites body .1) (suc i) = ap (before (bodySites body .1)) (add-one i) in
       omega (arith, k, rest .next, byte)
 
--- an answer with an output, by the number
-module _ (cs : List Check) (work given : List ℕ) where
-  refused-answer : (n : ℕ) → firstFailing cs ≡ n → (n ≡ done → ⊥) → answered cs work given ≡ written n given
-  refused-answer n e z = λ i. (e i, refused-given cs work given (λ d. z (sym e ∙ d)) i)
-
-  done-answer : firstFailing cs ≡ done → answered cs work given ≡ written done work
-  done-answer e = λ i. (e i, done-work cs work given e i)
-
 -- the sites of a report that passes are those of its body
 pub sites-body : (s : List ℕ) → Passed s → bodySites (beforeTag s) ≡ sitesIn s
 sites-body s p = ap (λ (n : ℕ). readSites n (drop 45 (beforeTag s))) (number-front (tagStart s) 43 2 s (omega (arith, p .tag-fits)))
@@ -259,11 +251,11 @@ module _ (s : List ℕ) (place : ℕ) where
 
   label-stops : (n : ℕ) → firstFailing (placeChecks s place) ≡ n → (n ≡ done → ⊥) → labelAnswer s place .1 ≡ []
   unfolding labelAnswer
-  label-stops n e z = ap (λ (r : ℕ × List ℕ). r .1) (refused-answer (placeChecks s place) (siteOf (sitesIn s .1) place .label) [] n e z)
+  label-stops n e z = ap (λ (r : ℕ × List ℕ). r .1) (answered-refused (placeChecks s place) (siteOf (sitesIn s .1) place .label) [] n e z)
 
   label-there : firstFailing (placeChecks s place) ≡ done → labelAnswer s place .1 ≡ siteOf (sitesIn s .1) place .label
   unfolding labelAnswer
-  label-there e = ap (λ (r : ℕ × List ℕ). r .1) (done-answer (placeChecks s place) (siteOf (sitesIn s .1) place .label) [] e)
+  label-there e = ap (λ (r : ℕ × List ℕ). r .1) (answered-done (placeChecks s place) (siteOf (sitesIn s .1) place .label) [] e)
 
   nowhere : (n : ℕ) → firstFailing (placeChecks s place) ≡ n → (n ≡ done → ⊥) → Points s (labelAnswer s place .1) (siteAnswer s place)
   nowhere n e z = subst (λ (r : SiteAt). Points s (labelAnswer s place .1) r) (sym (stopped-site n e z)) (record { room = omega arith; is = sym (label-stops n e z) })
@@ -289,18 +281,18 @@ module _ (s fields : List ℕ) where
   pub read-into-refused : (firstFailing (readChecks s) ≡ done → ⊥) → readIntoAnswer s fields ≡ written (firstFailing (readChecks s)) fields
   unfolding readIntoAnswer
   read-into-refused z =
-      refused-answer (readIntoChecks s fields) (numbersOf (fieldsOf s)) fields (firstFailing (readChecks s)) (append-refuses (readChecks s) (eleven ∷ []) z) z
+      answered-refused (readIntoChecks s fields) (numbersOf (fieldsOf s)) fields (firstFailing (readChecks s)) (append-refuses (readChecks s) (eleven ∷ []) z) z
 
   module _ (p : Passed s) where
     pub read-into-wrong-size : (length fields ≡ 11 → ⊥) → readIntoAnswer s fields ≡ written wrongSize fields
     unfolding readIntoAnswer
     read-into-wrong-size n =
-        refused-answer (readIntoChecks s fields) (numbersOf (fieldsOf s)) fields wrongSize (passes-then s p (eleven ∷ []) ∙ rw (ne-eqb (length fields) 11 n)) (λ z. omega arith)
+        answered-refused (readIntoChecks s fields) (numbersOf (fieldsOf s)) fields wrongSize (passes-then s p (eleven ∷ []) ∙ rw (ne-eqb (length fields) 11 n)) (λ z. omega arith)
 
     pub read-into-accepted : length fields ≡ 11 → readIntoAnswer s fields ≡ written done (numbersOf (fieldsOf s))
     unfolding readIntoAnswer
     read-into-accepted e =
-        done-answer (readIntoChecks s fields) (numbersOf (fieldsOf s)) fields (passes-then s p (eleven ∷ []) ∙ rw (eq-eqb (length fields) 11 e))
+        answered-done (readIntoChecks s fields) (numbersOf (fieldsOf s)) fields (passes-then s p (eleven ∷ []) ∙ rw (eq-eqb (length fields) 11 e))
 
 -- site_into, by the number of `site`
 module _ (s : List ℕ) (place : ℕ) (numbers : List ℕ) where
@@ -310,7 +302,7 @@ module _ (s : List ℕ) (place : ℕ) (numbers : List ℕ) where
   pub site-into-refused : (firstFailing (placeChecks s place) ≡ done → ⊥) → siteIntoAnswer s place numbers ≡ written (firstFailing (placeChecks s place)) numbers
   unfolding siteIntoAnswer
   site-into-refused z =
-      refused-answer (siteIntoChecks s place numbers) (siteNumbers (sitesIn s .1) place) numbers (firstFailing (placeChecks s place))
+      answered-refused (siteIntoChecks s place numbers) (siteNumbers (sitesIn s .1) place) numbers (firstFailing (placeChecks s place))
       (append-refuses (placeChecks s place) (four ∷ []) z) z
 
   module _ (d : firstFailing (placeChecks s place) ≡ done) where
@@ -320,12 +312,12 @@ module _ (s : List ℕ) (place : ℕ) (numbers : List ℕ) where
     pub site-into-wrong-size : (length numbers ≡ 4 → ⊥) → siteIntoAnswer s place numbers ≡ written wrongSize numbers
     unfolding siteIntoAnswer
     site-into-wrong-size n =
-        refused-answer (siteIntoChecks s place numbers) (siteNumbers (sitesIn s .1) place) numbers wrongSize (then ∙ rw (ne-eqb (length numbers) 4 n)) (λ z. omega arith)
+        answered-refused (siteIntoChecks s place numbers) (siteNumbers (sitesIn s .1) place) numbers wrongSize (then ∙ rw (ne-eqb (length numbers) 4 n)) (λ z. omega arith)
 
     pub site-into-accepted : length numbers ≡ 4 → siteIntoAnswer s place numbers ≡ written done (siteNumbers (sitesIn s .1) place)
     unfolding siteIntoAnswer
     site-into-accepted e =
-        done-answer (siteIntoChecks s place numbers) (siteNumbers (sitesIn s .1) place) numbers (then ∙ rw (eq-eqb (length numbers) 4 e))
+        answered-done (siteIntoChecks s place numbers) (siteNumbers (sitesIn s .1) place) numbers (then ∙ rw (eq-eqb (length numbers) 4 e))
 
 -- check
 module _ (s key : List ℕ) where
@@ -369,7 +361,7 @@ module _ (s key out : List ℕ) where
   pub fingerprint-refused : (firstFailing (readChecks s) ≡ done → ⊥) → fingerprintAnswer s key out ≡ written (firstFailing (readChecks s)) out
   unfolding fingerprintAnswer
   fingerprint-refused z =
-      refused-answer (fingerprintChecks s key out) (fingerprintOf s key) out (firstFailing (readChecks s))
+      answered-refused (fingerprintChecks s key out) (fingerprintOf s key) out (firstFailing (readChecks s))
       (append-refuses (readChecks s) (keyChecks key ++ (room ∷ [])) z)
       z
 
@@ -377,7 +369,7 @@ module _ (s key out : List ℕ) where
     pub fingerprint-key : (firstFailing (keyChecks key) ≡ done → ⊥) → fingerprintAnswer s key out ≡ written (firstFailing (keyChecks key)) out
     unfolding fingerprintAnswer
     fingerprint-key z =
-        refused-answer (fingerprintChecks s key out) (fingerprintOf s key) out (firstFailing (keyChecks key))
+        answered-refused (fingerprintChecks s key out) (fingerprintOf s key) out (firstFailing (keyChecks key))
         (passes-then s p (keyChecks key ++ (room ∷ [])) ∙ append-refuses (keyChecks key) (room ∷ []) z)
         z
 
@@ -385,14 +377,14 @@ module _ (s key out : List ℕ) where
       pub fingerprint-wrong-size : (length out ≡ 32 → ⊥) → fingerprintAnswer s key out ≡ written wrongSize out
       unfolding fingerprintAnswer
       fingerprint-wrong-size ne =
-          refused-answer (fingerprintChecks s key out) (fingerprintOf s key) out wrongSize
+          answered-refused (fingerprintChecks s key out) (fingerprintOf s key) out wrongSize
           (keyed-then s key p d (room ∷ []) ∙ rw (ne-eqb (length out) 32 ne))
           (λ z. omega arith)
 
       pub fingerprint-accepted : length out ≡ 32 → fingerprintAnswer s key out ≡ written done (fingerprintOf s key)
       unfolding fingerprintAnswer
       fingerprint-accepted e =
-          done-answer (fingerprintChecks s key out) (fingerprintOf s key) out
+          answered-done (fingerprintChecks s key out) (fingerprintOf s key) out
           (keyed-then s key p d (room ∷ []) ∙ rw (eq-eqb (length out) 32 e))
 
 -- keys

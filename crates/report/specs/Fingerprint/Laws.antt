@@ -11,7 +11,8 @@ use lib.Seq.{drop-drop, take-at, drop-at, slice, slice-empty, length-slice}
 use Rattle.octets.specs.Number.Laws.{number-slice, number-between}
 use Rattle.octets.specs.Number.{numberAt, bytes}
 use Rattle.report.specs.Layout.{Fields, sitesBytes, tagSize, AgreeButSendTime}
-use Rattle.report.specs.Reading.{tagSizeIn, tagStart, beforeTag, readSites, fieldsOf, readOf, WellFormed, afterSent}
+use Rattle.report.specs.Reading.{tagSizeIn, tagStart, beforeTag, readSites, fieldsOf, readOf, WellFormed}
+use Rattle.report.specs.Inside.{afterSent}
 use Rattle.report.specs.Reading.Laws.{read-fields, well-formed-passed, tag-low, tag-high, after-sent}
 use Rattle.report.specs.Fingerprint.{gapStart, gapEnd, messageOf}
 

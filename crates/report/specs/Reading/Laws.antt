@@ -23,7 +23,8 @@ use Rattle.algorithm.specs.Checks.Pass.{all, and}
 use Rattle.algorithm.specs.Checks.Refusing.{none, more}
 use Rattle.algorithm.specs.Checks.Laws.{done-passes, refuses}
 use Rattle.report.specs.Layout.{Site, siteBytes, sitesBytes, bytesOf, tagSize, smallestReport, largestReport, liveOf}
-use Rattle.report.specs.Reading.{hashNamed, tagSizeIn, tagStart, beforeTag, firstSite, withSite, readSites, sitesIn, sitesChecks, readChecks, fieldsOf, readOf, WellFormed, First, afterSent, Passed}
+use Rattle.report.specs.Reading.{hashNamed, tagSizeIn, tagStart, beforeTag, firstSite, withSite, readSites, sitesIn, sitesChecks, readChecks, fieldsOf, readOf, WellFormed}
+use Rattle.report.specs.Inside.{First, afterSent, Passed}
 
 -- a report's tag is half a digest of its hash, 32 bytes at most
 pub tag-half : (n : ℕ) → 2 * tagSize n ≡ sizeOf (hashNamed n)
