@@ -1,7 +1,7 @@
-/* What an agent does with Tirmuzzle: it makes the keys of its machine, builds a leak report of two sites by hand, tags it, and
- * sends it again later under another tag and the same fingerprint. The collector's calls stand beside, to show what it makes of it.
+/* What an agent does with Tirmuzzle: it makes the keys of its machine, writes a leak report of two sites with its tag, and sends it
+ * again later under another tag and the same fingerprint. The collector's calls stand beside, to show what it makes of it.
  *
- * Link it with libtirmuzzle.a. docs/PROTOCOL.md has the report's layout. */
+ * Link it with libtirmuzzle.a. */
 #include "tirmuzzle.h"
 
 #include <stdio.h>
@@ -13,7 +13,7 @@ enum { KEY = TIRMUZZLE_SHA256_REPORT_KEY, TAG = TIRMUZZLE_SHA256_REPORT_TAG };
 
 struct report {
     uint8_t bytes[TIRMUZZLE_LARGEST_REPORT];
-    size_t length;
+    uint64_t length;
 };
 
 /* Every call answers a number; an agent that goes on after a refusal would send what is in a buffer by chance. */
@@ -25,46 +25,16 @@ static void require(uint32_t answer, const char *what)
     }
 }
 
-/* Numbers in a report have their highest byte first. */
-static void add_number(struct report *report, uint64_t number, int bytes)
+/* The report as it is sent at a time, with its tag: the labels of both sites end to end, and three numbers for each site. */
+static void write_report(struct report *report, uint64_t send_time, const uint8_t *tag_key)
 {
-    while (bytes-- > 0)
-        report->bytes[report->length++] = (uint8_t)(number >> 8 * bytes);
-}
-
-static void add_site(struct report *report, const char *label, uint64_t live_bytes, uint32_t live_blocks)
-{
-    size_t length = strlen(label);
-    add_number(report, length, 1);
-    memcpy(report->bytes + report->length, label, length);
-    report->length += length;
-    add_number(report, live_bytes, 8);
-    add_number(report, live_blocks, 4);
-}
-
-/* The report as it is sent at a time, with its tag. */
-static void build(struct report *report, uint64_t send_time, const uint8_t *tag_key)
-{
-    report->length = 0;
-    add_number(report, 0, 4); /* the count, which is known at the end */
-    add_number(report, 1, 1);
-    add_number(report, TIRMUZZLE_SHA256, 1);
-    add_number(report, TENANT, 4);
-    add_number(report, MACHINE, 8);
-    add_number(report, REPORT_NUMBER, 8);
-    add_number(report, send_time, 8);
-    add_number(report, ATTEMPT, 1);
-    add_number(report, MEMORY, 8);
-    add_number(report, SITES, 2);
-    add_site(report, "cache.c:42", 1048576, 16);
-    add_site(report, "queue.c:7", 3000, 3);
-
-    size_t before_tag = report->length;
-    report->length = 0;
-    add_number(report, before_tag + TAG - 4, 4);
-    require(tirmuzzle_tag(TIRMUZZLE_SHA256, tag_key, KEY, report->bytes, before_tag, TAG, report->bytes + before_tag, TAG),
-            "the tag");
-    report->length = before_tag + TAG;
+    static const uint8_t labels[] = "cache.c:42" "queue.c:7";
+    static const uint32_t label_lengths[SITES] = {10, 9}, live_blocks[SITES] = {16, 3};
+    static const uint64_t live_bytes[SITES] = {1048576, 3000};
+    require(tirmuzzle_report_write(TIRMUZZLE_SHA256, TENANT, MACHINE, REPORT_NUMBER, send_time, ATTEMPT, MEMORY, labels,
+                                   sizeof labels - 1, label_lengths, SITES, live_bytes, SITES, live_blocks, SITES, tag_key, KEY,
+                                   report->bytes, sizeof report->bytes, &report->length),
+            "the report");
 }
 
 static void print_bytes(const char *what, const uint8_t *bytes, size_t length)
@@ -127,9 +97,9 @@ int main(void)
 
     struct report report;
     uint8_t first[TIRMUZZLE_FINGERPRINT], again[TIRMUZZLE_FINGERPRINT];
-    build(&report, 1000, tag_key);
+    write_report(&report, 1000, tag_key);
     take(&report, tag_key, fingerprint_key, first);
-    build(&report, 61000, tag_key);
+    write_report(&report, 61000, tag_key);
     take(&report, tag_key, fingerprint_key, again);
     printf("sent again: %s\n", memcmp(first, again, sizeof first) == 0 ? "the same fingerprint" : "another fingerprint");
     return 0;

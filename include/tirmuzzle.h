@@ -6,8 +6,12 @@
  * writes to no buffer. No call keeps a pointer, allocates memory or has state, so calls may run at the same time.
  *
  * A buffer is a pointer and how many elements it holds; NULL with 0 is an empty one. A buffer of bytes may start at any address, but
- * one of 64-bit numbers must be aligned for uint64_t. Inputs may overlap each other. If an output overlaps any other buffer of the
- * same call, the behaviour is undefined.
+ * one of 32-bit numbers must be aligned for uint32_t and one of 64-bit numbers for uint64_t. Inputs may overlap each other. If an
+ * output overlaps any other buffer of the same call, the behaviour is undefined.
+ *
+ * A pointer with no count beside it is no buffer: it leads to one number that a call answers beside its own, and that is always
+ * written, with 0 where the call is refused. It must not be NULL, must be aligned for its type, and the number must not overlap any
+ * buffer of the same call.
  */
 #ifndef TIRMUZZLE_H
 #define TIRMUZZLE_H
@@ -27,7 +31,8 @@ enum {
     TIRMUZZLE_KEY_TOO_LONG = 3,               /* key, salt or PRK over 4,294,967,295 bytes */
     TIRMUZZLE_MESSAGE_TOO_LONG = 4,           /* more than 4,294,967,295 bytes to hash; for a tag the key's block counts */
     TIRMUZZLE_TAG_LENGTH_OUT_OF_RANGE = 5,    /* a tag has 16 to 32 bytes under hash 1, 32 to 64 under hash 2 */
-    TIRMUZZLE_WRONG_SIZE = 6,                 /* a presented tag, or an output of a fixed size, of another size */
+    TIRMUZZLE_WRONG_SIZE = 6,                 /* a presented tag, or an output of a fixed size, of another size; or sites to be
+                                                 written, in buffers of unequal length */
     TIRMUZZLE_PRK_TOO_SHORT = 7,              /* PRK shorter than a digest */
     TIRMUZZLE_INFO_TOO_LONG = 8,              /* info over 1,024 bytes */
     TIRMUZZLE_OUTPUT_TOO_LONG = 9,            /* output over 255 digests */
@@ -36,9 +41,11 @@ enum {
     TIRMUZZLE_UNKNOWN_VERSION = 12,           /* the report's version is not 1 */
     TIRMUZZLE_TOO_MANY_SITES = 13,            /* more than 64 sites */
     TIRMUZZLE_LABEL_LENGTH_OUT_OF_RANGE = 14, /* a label of 0 or more than 48 bytes */
-    TIRMUZZLE_SITES_MISPLACED = 15,           /* a site reaches into the tag, or bytes stand between the last site and the tag */
+    TIRMUZZLE_SITES_MISPLACED = 15,           /* a site reaches into the tag, or bytes stand between the last site and the tag; or
+                                                 the labels to be written do not have as many bytes as their lengths add up to */
     TIRMUZZLE_SUM_TOO_LARGE = 16,             /* live bytes of more than 2^64 - 1 in all */
-    TIRMUZZLE_NO_SUCH_SITE = 17               /* no site at that place */
+    TIRMUZZLE_NO_SUCH_SITE = 17,              /* no site at that place */
+    TIRMUZZLE_BUFFER_TOO_SHORT = 18           /* a buffer too short for the report to be written */
 };
 
 /* The hashes, and the bytes of their digests. */
@@ -130,6 +137,27 @@ uint32_t tirmuzzle_expand(uint32_t hash, const uint8_t *prk, size_t prk_length, 
  * out has TIRMUZZLE_FINGERPRINT bytes. Refuses as reading does, then with 3, 6. */
 uint32_t tirmuzzle_report_fingerprint(const uint8_t *report, size_t report_length, const uint8_t *fingerprint_key,
                                       size_t fingerprint_key_length, uint8_t *out, size_t out_length);
+
+/* Writing a report from its fields and sites, with its tag under the tag key as it is lent. The count, the version and the number
+ * of sites are the call's own to make. The sites come as all labels end to end, and three buffers with a number for each site: how
+ * many bytes its label has, its live bytes, its live blocks. The report stands at the beginning of out, and what out has after it
+ * stays as it was; TIRMUZZLE_LARGEST_REPORT bytes are enough for any report. length is always written: how many bytes the report
+ * has, or 0 where the call is refused. C cuts a wider number to the width of its parameter before the call can see it: an agent that
+ * counts its attempts in an int has to stop at 255. Refuses, in this order, with
+ *
+ *      2  hash is not 1 or 2
+ *      6  the three buffers of numbers are of unequal length
+ *     13  there are more than 64 sites
+ *     14  a label's length is 0 or more than 48
+ *     15  labels does not have as many bytes as the lengths add up to
+ *     16  the live bytes of all sites add up to more than 2^64 - 1
+ *      3  the tag key has more than 4,294,967,295 bytes
+ *     18  out is too short for the report */
+uint32_t tirmuzzle_report_write(uint32_t hash, uint32_t tenant, uint64_t machine, uint64_t report_number, uint64_t send_time,
+                                uint8_t attempt, uint64_t memory, const uint8_t *labels, size_t labels_length,
+                                const uint32_t *label_lengths, size_t label_lengths_count, const uint64_t *live_bytes,
+                                size_t live_bytes_count, const uint32_t *live_blocks, size_t live_blocks_count,
+                                const uint8_t *tag_key, size_t tag_key_length, uint8_t *out, size_t out_length, uint64_t *length);
 
 /* ---- For the collector ---- */
 

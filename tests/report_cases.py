@@ -14,6 +14,11 @@ MOST_REPORT_BYTES, MOST_KEY_BYTES, MOST_OUTPUT_BYTES = 4096, 512, 256
 LAYOUT = dict(version=1, hash=1, tenant=4, machine=8, number=8, send_time=8, attempt=1, memory=8)
 WORKED = dict(version=1, hash=1, tenant=7, machine=258, number=9, send_time=1000, attempt=0, memory=2**31)
 FREE_FIELDS = [name for name in LAYOUT if name not in ("version", "hash")]
+# Every byte of the fields another.
+MIXED = dict(
+    tenant=0x01020304, machine=0x05060708090A0B0C, number=0x0D0E0F1011121314, send_time=0x15161718191A1B1C, attempt=0x1D,
+    memory=0x1E1F202122232425,
+)
 LARGEST_64, LARGEST_32 = 2**64 - 1, 2**32 - 1
 
 KEY = bytes(range(1, 33))
@@ -78,6 +83,11 @@ def agrees(number, made_for, what):
     hold(made_for in (None, number), f"a {what} made for {made_for} answers {number}")
 
 
+def read_line(report):
+    number, fields = rules.read(report)
+    return f"read: {number}, {' '.join(map(str, fields))}"
+
+
 def site_line(report, place):
     number, answers = rules.site(report, place)
     labelled, label = rules.label(report, place)
@@ -92,7 +102,7 @@ def reading(report, made_for=None, places=None):
         sites = fields[9]
         places = (0, 64) if number else sorted({0, max(sites, 1) - 1, sites, 64, 2**32, LARGEST_64})
     record = b"\1" + prefixed(report, MOST_REPORT_BYTES) + bytes([len(places)]) + b"".join(big(place, 8) for place in places)
-    return record, [f"read: {number}, {' '.join(map(str, fields))}"] + [site_line(report, place) for place in places]
+    return record, [read_line(report)] + [site_line(report, place) for place in places]
 
 
 def checking(report, key, made_for=None):
@@ -117,18 +127,20 @@ def deriving(number, prk, size, made_for, tenant=7, machine=258):
     return record, [f"keys: {answered}, {shown(out)}"]
 
 
+def filled(byte):
+    """The fields, every byte of them this one."""
+    return {name: int.from_bytes(byte * LAYOUT[name], "big") for name in FREE_FIELDS}
+
+
 def good_reports(hash):
     yield reading(made(hash=hash), 0)
     yield reading(made((), hash=hash), 0)
     every_length = [site(pattern(i % 48 + 1), live=i, blocks=64 - i) for i in range(64)]
     yield reading(made(every_length, hash=hash), 0, range(66))
     for byte, sites in ((b"\0", [site(bytes(48), 0, 0)]), (b"\xff", [site(b"\xff" * 48, LARGEST_64, LARGEST_32)])):
-        same = {name: int.from_bytes(byte * LAYOUT[name], "big") for name in FREE_FIELDS}
-        yield reading(made(sites, hash=hash, tag=byte * TAG_BYTES[hash], **same), 0)
-    # Every byte of the fields another.
+        yield reading(made(sites, hash=hash, tag=byte * TAG_BYTES[hash], **filled(byte)), 0)
     sites = [site(b"\0", 0, 0), site(b"\xff", 0x2627282930313233, 0x34353637)]
-    fields = dict(tenant=0x01020304, machine=0x05060708090A0B0C, number=0x0D0E0F1011121314, send_time=0x15161718191A1B1C)
-    yield reading(made(sites, hash=hash, attempt=0x1D, memory=0x1E1F202122232425, **fields), 0)
+    yield reading(made(sites, hash=hash, **MIXED), 0)
 
 
 def largest():
@@ -208,16 +220,19 @@ def site_ends(hash):
     yield reading(made((), stated=1, hash=hash, tag=bytes(size)), 15)
 
 
+# Live bytes of sites that add up to at most 2^64 - 1, and to more, with the number that comes back.
+HALF, QUARTER = 2**63, 2**62
+SUMS = (
+    (0, LARGEST_64, 0), (0, LARGEST_64 - 1, 1), (0, HALF, HALF - 1), (0, 0, 0, LARGEST_64), (0, HALF, QUARTER, QUARTER - 1),
+    (16, LARGEST_64, 1), (16, 1, LARGEST_64), (16, HALF, HALF), (16, HALF, QUARTER, QUARTER), (16, 0, 1, LARGEST_64),
+    (16, LARGEST_64, 1, 5), (16, HALF, HALF, LARGEST_64), (16, LARGEST_64, LARGEST_64, 2), (16, *[LARGEST_64] * 3),
+    (0, *[2**58] * 63, 2**58 - 1), (16, *[2**58] * 64),
+)
+
+
 def sums(hash):
-    half, quarter = 2**63, 2**62
-    for number, *sizes in (
-        (0, LARGEST_64, 0), (0, LARGEST_64 - 1, 1), (0, half, half - 1), (0, 0, 0, LARGEST_64), (0, half, quarter, quarter - 1),
-        (16, LARGEST_64, 1), (16, 1, LARGEST_64), (16, half, half), (16, half, quarter, quarter), (16, 0, 1, LARGEST_64),
-        (16, LARGEST_64, 1, 5), (16, half, half, LARGEST_64), (16, LARGEST_64, LARGEST_64, 2), (16, *[LARGEST_64] * 3),
-    ):
+    for number, *sizes in SUMS:
         yield reading(made([site(b"s", live) for live in sizes], hash=hash), number)
-    yield reading(made([site(b"s", 2**58)] * 63 + [site(b"s", 2**58 - 1)], hash=hash), 0)
-    yield reading(made([site(b"s", 2**58)] * 64, hash=hash), 16)
     overflowing = [site(b"s", LARGEST_64), site(b"s", 1)]
     yield reading(made(overflowing + [site(b"", length=0)], hash=hash), 14)
     yield reading(made(overflowing + [site(b"s")[:5]], hash=hash), 15)
@@ -318,12 +333,22 @@ def drawn_bytes(source, length):
     return bytes(source.getrandbits(8) for _ in range(length))
 
 
-def drawn_report(source):
+def drawn_sites(source):
+    """Up to three sites, each as its label, its live bytes and its live blocks."""
     sites = []
     for _ in range(source.randrange(4)):
         label = drawn_bytes(source, source.choice((1, 2, 3, 5, 8, 48)))
-        sites.append(site(label, source.getrandbits(source.choice((8, 33, 63, 64))), source.getrandbits(32)))
-    fields = {name: source.getrandbits(source.randrange(1, 8 * LAYOUT[name] + 1)) for name in FREE_FIELDS}
+        sites.append((label, source.getrandbits(source.choice((8, 33, 63, 64))), source.getrandbits(32)))
+    return sites
+
+
+def drawn_fields(source):
+    return {name: source.getrandbits(source.randrange(1, 8 * LAYOUT[name] + 1)) for name in FREE_FIELDS}
+
+
+def drawn_report(source):
+    sites = [site(*drawn_site) for drawn_site in drawn_sites(source)]
+    fields = drawn_fields(source)
     return made(sites, hash=source.choice((1, 2)), **fields)
 
 

@@ -1,4 +1,4 @@
-"""The rules of docs/PROTOCOL.md on reports: reading, sites, tags, fingerprints and the two keys.
+"""The rules of docs/PROTOCOL.md on reports: reading, sites, writing, tags, fingerprints and the two keys.
 
 HMAC comes from Python's own library, and everything else is written here from the document."""
 import hashlib
@@ -96,6 +96,51 @@ def check(report, tag_key):
         return 3
     presented = report[tag_start(report) :]
     return int(full_tag(report[5], tag_key, report[: tag_start(report)])[: len(presented)] != presented)
+
+
+def refusal_of_columns(labels, lengths, live, blocks):
+    """The number of the first check that the sites to be written fail, or 0."""
+    if not len(lengths) == len(live) == len(blocks):
+        return 6
+    if len(lengths) > 64:
+        return 13
+    if any(length == 0 or length > 48 for length in lengths):
+        return 14
+    if sum(lengths) != len(labels):
+        return 15
+    return 16 if sum(live) > MOST_LIVE_BYTES else 0
+
+
+def report_of(heading, labels, lengths, live, blocks, tag_key):
+    """The report that nothing speaks against, with its tag."""
+    hash, sites, at = heading[0], b"", 0
+    for length, live_bytes, live_blocks in zip(lengths, live, blocks):
+        label = labels[at : at + length]
+        sites += bytes([length]) + label + live_bytes.to_bytes(8, "big") + live_blocks.to_bytes(4, "big")
+        at += length
+    count = SITES_START - 4 + len(sites) + TAG_BYTES[hash]
+    fields = [count, 1, *heading, len(lengths)]
+    before = b"".join(field.to_bytes(size, "big") for field, (_, size) in zip(fields, FIELDS, strict=True)) + sites
+    return before + full_tag(hash, tag_key, before)[: TAG_BYTES[hash]]
+
+
+def write(heading, labels, lengths, live, blocks, tag_key, size):
+    """The number, the length of the report, and what an output of this size then holds.
+
+    The heading is hash, tenant, machine, report number, send time, attempt and memory. The sites are all labels end to end, and for
+    each site the length of its label, its live bytes and its live blocks."""
+    untouched = bytes([UNTOUCHED]) * size
+    if heading[0] not in HASHES:
+        return 2, 0, untouched
+    number = refusal_of_columns(labels, lengths, live, blocks)
+    if number:
+        return number, 0, untouched
+    if len(tag_key) > MOST_KEY_BYTES:
+        return 3, 0, untouched
+    report = report_of(heading, labels, lengths, live, blocks, tag_key)
+    if len(report) > size:
+        return 18, 0, untouched
+    return 0, len(report), report + untouched[len(report) :]
 
 
 def fingerprint_message(report):

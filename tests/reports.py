@@ -11,6 +11,10 @@ of bytes after its length in four,
     2  report, tag key; answered by check
     3  report, fingerprint key, size of the output in 4 bytes; answered by fingerprint
     4  number of the hash in 4 bytes, PRK, tenant in 4, machine in 8, size of the output in 4; answered by keys
+    5  number of the hash in 4 bytes, tenant in 4, machine, report number and send time in 8 each, attempt in 1, memory in 8; labels;
+       lengths of labels in 4 each, live bytes in 8 each and live blocks in 4 each, each list after how many there are in 4; tag key,
+       size of the output in 4; answered by write, and where the report is written by check, by read, and by write once more from
+       what read, site and label answer of it
 
 An output holds bytes a5 beforehand, and is written as it is after the call. Before it writes or compares anything the program holds
 the rules to the worked values, to RFC 5869 and to the numbers that the cases were made for."""
@@ -22,7 +26,8 @@ import sys
 sys.dont_write_bytecode = True  # tests/ holds sources only
 import report_cases
 import report_rules as rules
-from report_cases import hold, made
+import write_cases
+from report_cases import KEY, hold, made
 
 ROOT = pathlib.Path(__file__).resolve().parent.parent
 CASES = "crates/report_vectors/stdin"
@@ -31,6 +36,7 @@ EXPECTED = "crates/report_vectors/stdout"
 WORKED_BEFORE_TAG = """
     00 00 00 48 01 01 00 00 00 07 00 00 00 00 00 00 01 02 00 00 00 00 00 00 00 09 00 00 00 00 00 00 03 e8 00
     00 00 00 00 80 00 00 00 00 01 02 61 62 00 00 00 00 00 00 10 00 00 00 00 02"""
+WORKED_HEADING = (1, 7, 258, 9, 1000, 0, 2**31)
 WORKED_INFO = "00 0e 01 01 00 00 00 07 00 00 00 00 00 00 01 02"
 
 # RFC 5869, test case 1: the PRK, the info and the first 32 bytes that come of them.
@@ -41,7 +47,8 @@ RFC_KEY = "3cb25f25faacd57a90434f64d0362f2a2d2d0a90cf1a5a4c5db02d56ecc4c5bf"
 # The numbers that each call must reach, at least twice. 3 would take a key over 4 GiB.
 READ_NUMBERS = (0, 2, 11, 12, 13, 14, 15, 16)
 NUMBERS = dict(
-    read=READ_NUMBERS, site=READ_NUMBERS + (17,), check=READ_NUMBERS + (1,), fingerprint=READ_NUMBERS + (6,), keys=(0, 2, 6, 7)
+    read=READ_NUMBERS, site=READ_NUMBERS + (17,), check=READ_NUMBERS + (1,), fingerprint=READ_NUMBERS + (6,), keys=(0, 2, 6, 7),
+    write=(0, 2, 6, 13, 14, 15, 16, 18),
 )
 
 
@@ -50,6 +57,8 @@ def hold_to_document():
     worked = made()
     hold(worked[:-16] == bytes.fromhex(WORKED_BEFORE_TAG), "the worked report has other bytes")
     hold(rules.read(worked) == (0, [72, 1, 1, 7, 258, 9, 1000, 0, 2**31, 1, 4096]), "the worked report is read otherwise")
+    written = rules.write(WORKED_HEADING, b"ab", [2], [4096], [2], KEY, len(worked))
+    hold(written == (0, 76, worked), "the worked report is written otherwise")
     hold(rules.key_info(1, 7, 258) == bytes.fromhex(WORKED_INFO), "the worked info has other bytes")
     hold(len(rules.fingerprint_message(worked)) == 48, "the worked report's fingerprint is of another message")
     hold(len(made(())) == 61, "the smallest report has another size")
@@ -82,7 +91,7 @@ def main(arguments):
     if arguments not in ([], ["--check"]):
         sys.exit(__doc__)
     hold_to_document()
-    cases = list(report_cases.cases())
+    cases = [*report_cases.cases(), *write_cases.cases()]
     lines = [line for _, answers in cases for line in answers]
     hold_to_numbers(lines)
     files = {CASES: b"".join(record for record, _ in cases), EXPECTED: "".join(line + "\n" for line in lines).encode()}

@@ -79,9 +79,9 @@ def report_check(report, key):
     return report_rules.check(report, key), None
 
 
-def in_words(numbers):
+def in_words(numbers, size=8):
     """Numbers as the callers find them in the file of cases."""
-    return b"".join(number.to_bytes(8, "little") for number in numbers)
+    return b"".join(number.to_bytes(size, "little") for number in numbers)
 
 
 def report_read(report, places):
@@ -96,3 +96,9 @@ def report_site(report, place, places):
     if number == 0 and places != SITE_PLACES:
         number = 6
     return written(number, in_words(site))
+
+
+def report_write(heading, labels, lengths, live, blocks, key, size):
+    """The length comes third: it is written where the call is refused too."""
+    number, length, out = report_rules.write(heading, labels, lengths, live, blocks, key, size)
+    return *written(number, out[:length]), length

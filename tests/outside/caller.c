@@ -1,5 +1,5 @@
 /* Calls the library from C on every case of a file that tests/outside/cases.py made, and compares the number, each byte of the
- * output and that the inputs are as they were.
+ * outputs and that the inputs are as they were. A report that was written is also read back and written again.
  *
  *     caller FILE [--case N]
  *
@@ -16,25 +16,15 @@
 #include <sys/mman.h>
 #include <valgrind/valgrind.h>
 
-enum { INPUTS = 3, OUTPUT = 3, BUFFERS = 4, HEAD = 40, AROUND = 64, UNTOUCHABLE = 65536 };
+/* The buffers of a case: five inputs, the output, and the length that a call writes beside it. */
+enum { INPUTS = 5, OUTPUT = INPUTS, LENGTH, BUFFERS };
+enum { NUMBERS = 7, HEAD = 8 + 8 * NUMBERS, BUFFER_HEAD = 12, AROUND = 64, UNTOUCHABLE = 65536 };
 
-/* The calls in the order of cases.py, how many inputs each takes, and the bytes of a place of its output. */
-enum { DIGEST, TAG, VERIFY, EXTRACT, EXPAND, FINGERPRINT, KEYS, CHECK, READ, SITE, CALLS };
-static const struct {
-    const char *name;
-    int inputs;
-    size_t place_bytes;
-} calls[CALLS] = {
-    {"digest", 1, 1},
-    {"tag", 2, 1},
-    {"verify", 3, 0},
-    {"extract", 2, 1},
-    {"expand", 2, 1},
-    {"report_fingerprint", 2, 1},
-    {"report_keys", 1, 1},
-    {"report_check", 2, 0},
-    {"report_read", 1, 8},
-    {"report_site", 1, 8},
+/* The calls in the order of cases.py. */
+enum { DIGEST, TAG, VERIFY, EXTRACT, EXPAND, FINGERPRINT, KEYS, CHECK, READ, SITE, WRITE, CALLS };
+static const char *const names[CALLS] = {
+    "digest",      "tag",          "verify",      "extract",     "expand",       "report_fingerprint",
+    "report_keys", "report_check", "report_read", "report_site", "report_write",
 };
 
 /* How memory is lent. */
@@ -43,13 +33,18 @@ static const char *const ways[WAYS] = {
     "between known bytes", "in a block of its size", "before untouchable memory", "after untouchable memory",
 };
 
+/* A buffer as the file describes it: the bytes of an element, or 0 where the call has no such buffer, how many elements there are,
+ * and the bytes that the file gives: of an input all, of an output those that the call must write. */
+struct buffer {
+    size_t size, count, given_length;
+    const uint8_t *given;
+};
+
 struct test_case {
     unsigned long place; /* in the file, counted from 0 */
-    uint32_t call, answer, hash, tenant;
-    uint64_t number;
-    const uint8_t *bytes[BUFFERS]; /* the inputs and the output that is expected, in the file */
-    size_t lengths[BUFFERS];
-    size_t places;
+    uint32_t call, answer;
+    uint64_t numbers[NUMBERS];
+    struct buffer buffers[BUFFERS];
 };
 
 struct lent {
@@ -89,13 +84,15 @@ static void print_bytes(const char *what, const uint8_t *bytes, size_t length)
 
 static void print_case(const char *what)
 {
-    static const char *const names[INPUTS] = {"input 1", "input 2", "input 3"};
-    fprintf(stderr, "caller: case %lu, %s: %s (memory lent %s)\n", now.place, calls[now.call].name, what, ways[way]);
-    fprintf(stderr, "  hash %lu, tenant %lu, tag length, machine or place %llu, output of %lu places\n", (unsigned long)now.hash,
-            (unsigned long)now.tenant, (unsigned long long)now.number, (unsigned long)now.places);
-    for (int i = 0; i < calls[now.call].inputs; i++)
-        print_bytes(names[i], now.bytes[i], now.lengths[i]);
-    fprintf(stderr, "  expected answer: %lu\n", (unsigned long)now.answer);
+    fprintf(stderr, "caller: case %lu, %s: %s (memory lent %s)\n", now.place, names[now.call], what, ways[way]);
+    fprintf(stderr, "  numbers in the order of the parameters, then zeros:");
+    for (int i = 0; i < NUMBERS; i++)
+        fprintf(stderr, " %llu", (unsigned long long)now.numbers[i]);
+    fprintf(stderr, "\n");
+    for (int i = 0; i < INPUTS && now.buffers[i].size > 0; i++)
+        print_bytes("input", now.buffers[i].given, now.buffers[i].given_length);
+    fprintf(stderr, "  output of %lu places\n  expected answer: %lu\n", (unsigned long)now.buffers[OUTPUT].count,
+            (unsigned long)now.answer);
 }
 
 static void print_again(void)
@@ -120,17 +117,19 @@ static uint8_t filling(size_t at)
     return (uint8_t)(0xa5 + 0x3b * (unsigned)way + 7 * (unsigned)at + now.place);
 }
 
-/* Memory of a length for one buffer. An empty one is NULL between known bytes, and a pointer otherwise. Between known bytes a
- * buffer of bytes starts at any address, and one of numbers at one that is right for them. */
-static struct lent lend(int buffer, size_t length)
+/* Memory for one buffer. An empty one is NULL between known bytes, and a pointer otherwise. Between known bytes a buffer starts at
+ * any address that is right for its elements. */
+static struct lent lend(int buffer)
 {
+    size_t size = now.buffers[buffer].size, length = size * now.buffers[buffer].count;
     struct lent lent = {NULL, NULL, 0, length};
+    if (size == 0)
+        return lent;
     if (way == BEFORE_UNTOUCHABLE || way == AFTER_UNTOUCHABLE) {
         lent.start = rooms[buffer] + (way == BEFORE_UNTOUCHABLE ? room_length - length : 0);
         return lent;
     }
-    int numbers = buffer == OUTPUT && calls[now.call].place_bytes == 8;
-    size_t before = way == EXACT_BLOCK ? 0 : AROUND + (numbers ? 0 : now.place % 16);
+    size_t before = way == EXACT_BLOCK ? 0 : AROUND + now.place % 16 / size * size;
     lent.block_length = length + (way == EXACT_BLOCK ? 0 : 2 * AROUND);
     lent.block = malloc(lent.block_length);
     require(lent.block != NULL, "out of memory");
@@ -155,66 +154,142 @@ static int around_unchanged(const struct lent *lent)
 
 static uint32_t make_call(const struct lent *lent)
 {
-    const uint8_t *a = lent[0].start, *b = lent[1].start, *c = lent[2].start;
-    size_t a_length = lent[0].length, b_length = lent[1].length, c_length = lent[2].length;
-    uint8_t *out = lent[OUTPUT].start;
-    uint64_t *words = (uint64_t *)(void *)out;
+    const void *a = lent[0].start, *b = lent[1].start, *c = lent[2].start, *d = lent[3].start, *e = lent[4].start;
+    void *out = lent[OUTPUT].start, *length = lent[LENGTH].start;
+    size_t a_count = now.buffers[0].count, b_count = now.buffers[1].count, c_count = now.buffers[2].count;
+    size_t d_count = now.buffers[3].count, e_count = now.buffers[4].count, out_count = now.buffers[OUTPUT].count;
+    const uint64_t *n = now.numbers;
+    uint32_t hash = (uint32_t)n[0];
     switch (now.call) {
-    case DIGEST: return tirmuzzle_digest(now.hash, a, a_length, out, now.places);
-    case TAG: return tirmuzzle_tag(now.hash, a, a_length, b, b_length, now.number, out, now.places);
-    case VERIFY: return tirmuzzle_verify(now.hash, a, a_length, b, b_length, now.number, c, c_length);
-    case EXTRACT: return tirmuzzle_extract(now.hash, a, a_length, b, b_length, out, now.places);
-    case EXPAND: return tirmuzzle_expand(now.hash, a, a_length, b, b_length, out, now.places);
-    case FINGERPRINT: return tirmuzzle_report_fingerprint(a, a_length, b, b_length, out, now.places);
-    case KEYS: return tirmuzzle_report_keys(now.hash, a, a_length, now.tenant, now.number, out, now.places);
-    case CHECK: return tirmuzzle_report_check(a, a_length, b, b_length);
-    case READ: return tirmuzzle_report_read(a, a_length, words, now.places);
-    default: return tirmuzzle_report_site(a, a_length, now.number, words, now.places);
+    case DIGEST: return tirmuzzle_digest(hash, a, a_count, out, out_count);
+    case TAG: return tirmuzzle_tag(hash, a, a_count, b, b_count, n[1], out, out_count);
+    case VERIFY: return tirmuzzle_verify(hash, a, a_count, b, b_count, n[1], c, c_count);
+    case EXTRACT: return tirmuzzle_extract(hash, a, a_count, b, b_count, out, out_count);
+    case EXPAND: return tirmuzzle_expand(hash, a, a_count, b, b_count, out, out_count);
+    case FINGERPRINT: return tirmuzzle_report_fingerprint(a, a_count, b, b_count, out, out_count);
+    case KEYS: return tirmuzzle_report_keys(hash, a, a_count, (uint32_t)n[1], n[2], out, out_count);
+    case CHECK: return tirmuzzle_report_check(a, a_count, b, b_count);
+    case READ: return tirmuzzle_report_read(a, a_count, out, out_count);
+    case SITE: return tirmuzzle_report_site(a, a_count, n[0], out, out_count);
+    default:
+        return tirmuzzle_report_write(hash, (uint32_t)n[1], n[2], n[3], n[4], (uint8_t)n[5], n[6], a, a_count, b, b_count, c,
+                                      c_count, d, d_count, e, e_count, out, out_count, length);
     }
 }
 
-/* The output that is expected: from the file, with numbers turned to this machine's, or what filled it beforehand. */
-static uint8_t *expected_output(size_t length)
+/* What the calls on a report answer of one: its fields, and its sites as they are handed over to be written. */
+struct answered {
+    uint64_t fields[TIRMUZZLE_FIELDS], live_bytes[TIRMUZZLE_MOST_SITES];
+    uint32_t label_lengths[TIRMUZZLE_MOST_SITES], live_blocks[TIRMUZZLE_MOST_SITES];
+    uint8_t labels[TIRMUZZLE_MOST_SITES * TIRMUZZLE_LONGEST_LABEL];
+    size_t sites, labels_length;
+};
+
+/* Reads a report, and answers whether it is one. */
+static int read_report(const uint8_t *report, size_t length, struct answered *answered)
 {
-    uint8_t *expected = malloc(length + 1);
-    require(expected != NULL, "out of memory");
-    for (size_t i = 0; i < length; i++)
-        expected[i] = now.answer == 0 ? now.bytes[OUTPUT][i] : filling(i);
-    if (now.answer == 0 && calls[now.call].place_bytes == 8)
-        for (size_t i = 0; i < length; i += 8) {
-            uint64_t number = little(expected + i, 8);
-            memcpy(expected + i, &number, 8);
-        }
-    return expected;
+    uint64_t site[TIRMUZZLE_SITE_NUMBERS];
+    if (tirmuzzle_report_read(report, length, answered->fields, TIRMUZZLE_FIELDS) != TIRMUZZLE_DONE)
+        return 0;
+    answered->sites = (size_t)answered->fields[TIRMUZZLE_FIELD_SITES];
+    answered->labels_length = 0;
+    for (size_t i = 0; i < answered->sites; i++) {
+        if (tirmuzzle_report_site(report, length, i, site, TIRMUZZLE_SITE_NUMBERS) != TIRMUZZLE_DONE)
+            return 0;
+        size_t label_length = (size_t)site[TIRMUZZLE_SITE_LABEL_LENGTH];
+        memcpy(answered->labels + answered->labels_length, report + site[TIRMUZZLE_SITE_LABEL_START], label_length);
+        answered->labels_length += label_length;
+        answered->label_lengths[i] = (uint32_t)label_length;
+        answered->live_bytes[i] = site[TIRMUZZLE_SITE_LIVE_BYTES];
+        answered->live_blocks[i] = (uint32_t)site[TIRMUZZLE_SITE_LIVE_BLOCKS];
+    }
+    return 1;
+}
+
+/* Writes a report again from what was answered of it. */
+static uint32_t write_again(const struct answered *answered, const uint8_t *key, size_t key_length, uint8_t *again,
+                            uint64_t *length)
+{
+    const uint64_t *fields = answered->fields;
+    return tirmuzzle_report_write(
+        (uint32_t)fields[TIRMUZZLE_FIELD_HASH], (uint32_t)fields[TIRMUZZLE_FIELD_TENANT], fields[TIRMUZZLE_FIELD_MACHINE],
+        fields[TIRMUZZLE_FIELD_REPORT_NUMBER], fields[TIRMUZZLE_FIELD_SEND_TIME], (uint8_t)fields[TIRMUZZLE_FIELD_ATTEMPT],
+        fields[TIRMUZZLE_FIELD_MEMORY], answered->labels, answered->labels_length, answered->label_lengths, answered->sites,
+        answered->live_bytes, answered->sites, answered->live_blocks, answered->sites, key, key_length, again,
+        TIRMUZZLE_LARGEST_REPORT, length);
+}
+
+/* Whether an input of the case is these bytes. */
+static int is_input(int input, const void *bytes, size_t length)
+{
+    return now.buffers[input].given_length == length && memcmp(now.buffers[input].given, bytes, length) == 0;
+}
+
+/* A report that was written passes the check, reads back as what was handed over, and comes out the same when it is written again
+ * from that. Answers what is wrong, or NULL. */
+static const char *wrong_when_read(const uint8_t *report, size_t length)
+{
+    static struct answered answered;
+    static uint8_t again[TIRMUZZLE_LARGEST_REPORT];
+    const uint8_t *key = now.buffers[4].given;
+    size_t key_length = now.buffers[4].given_length;
+    uint64_t again_length;
+    if (tirmuzzle_report_check(report, length, key, key_length) != TIRMUZZLE_DONE)
+        return "the written report does not pass the check";
+    if (!read_report(report, length, &answered))
+        return "the written report cannot be read";
+    if (answered.fields[TIRMUZZLE_FIELD_COUNT] != length - 4 || answered.fields[TIRMUZZLE_FIELD_VERSION] != 1 ||
+        memcmp(answered.fields + TIRMUZZLE_FIELD_HASH, now.numbers, sizeof now.numbers) != 0)
+        return "the written report has other fields";
+    if (!is_input(0, answered.labels, answered.labels_length) ||
+        !is_input(1, answered.label_lengths, answered.sites * sizeof answered.label_lengths[0]) ||
+        !is_input(2, answered.live_bytes, answered.sites * sizeof answered.live_bytes[0]) ||
+        !is_input(3, answered.live_blocks, answered.sites * sizeof answered.live_blocks[0]))
+        return "the written report has other sites";
+    if (write_again(&answered, key, key_length, again, &again_length) != TIRMUZZLE_DONE || again_length != length ||
+        memcmp(again, report, length) != 0)
+        return "the written report, read and written again, is another";
+    return NULL;
+}
+
+/* Whether a buffer holds after the call what it must: what the file gives, and after that what filled it beforehand. */
+static int as_expected(const struct buffer *buffer, const struct lent *lent)
+{
+    if (buffer->given_length > 0 && memcmp(lent->start, buffer->given, buffer->given_length) != 0)
+        return 0;
+    for (size_t i = buffer->given_length; i < lent->length; i++)
+        if (lent->start[i] != filling(i))
+            return 0;
+    return 1;
 }
 
 static void run_case(void)
 {
     struct lent lent[BUFFERS];
-    size_t output_length = now.places * calls[now.call].place_bytes;
-    uint8_t *expected = expected_output(output_length);
     for (int i = 0; i < BUFFERS; i++) {
-        lent[i] = lend(i, i == OUTPUT ? output_length : now.lengths[i]);
+        lent[i] = lend(i);
         for (size_t k = 0; k < lent[i].length; k++)
-            lent[i].start[k] = i == OUTPUT ? filling(k) : now.bytes[i][k];
+            lent[i].start[k] = i < INPUTS ? now.buffers[i].given[k] : filling(k);
     }
     uint32_t answer = make_call(lent);
     const char *wrong = NULL;
-    for (int i = 0; i < BUFFERS; i++)
+    for (int i = 0; i < BUFFERS; i++) {
         if (!around_unchanged(&lent[i]))
-            wrong = i == OUTPUT ? "bytes around the output were changed" : "bytes around an input were changed";
-    for (int i = 0; i < INPUTS; i++)
-        if (lent[i].length > 0 && memcmp(lent[i].start, now.bytes[i], lent[i].length) != 0)
-            wrong = "an input was changed";
-    if (output_length > 0 && memcmp(lent[OUTPUT].start, expected, output_length) != 0)
-        wrong = now.answer == 0 ? "another output" : "a refused call wrote to its output";
+            wrong = i < INPUTS ? "bytes around an input were changed" : "bytes around an output were changed";
+        if (!as_expected(&now.buffers[i], &lent[i]))
+            wrong = i < INPUTS ? "an input was changed" : i == OUTPUT ? "another output" : "another length";
+    }
     if (answer != now.answer)
         wrong = "another answer";
+    if (wrong == NULL && now.call == WRITE && answer == TIRMUZZLE_DONE)
+        wrong = wrong_when_read(lent[OUTPUT].start, now.buffers[OUTPUT].given_length);
     if (wrong != NULL) {
         print_case(wrong);
         fprintf(stderr, "  found answer: %lu\n", (unsigned long)answer);
-        print_bytes("expected output", expected, output_length);
-        print_bytes("found output", lent[OUTPUT].start, output_length);
+        for (int i = OUTPUT; i < BUFFERS && now.buffers[i].size > 0; i++) {
+            print_bytes("of the output, what must be written", now.buffers[i].given, now.buffers[i].given_length);
+            print_bytes("found output", lent[i].start, lent[i].length);
+        }
         print_again();
         exit(1);
     }
@@ -225,26 +300,41 @@ static void run_case(void)
     }
     for (int i = 0; i < BUFFERS; i++)
         free(lent[i].block);
-    free(expected);
+}
+
+/* Turns the numbers that a buffer has in the file, with their lowest bytes first, to this machine's. */
+static void turn_numbers(uint8_t *bytes, size_t length, size_t size)
+{
+    for (size_t i = 0; i < length; i += size) {
+        uint64_t number = little(bytes + i, (int)size);
+        uint32_t half = (uint32_t)number;
+        memcpy(bytes + i, size == 4 ? (void *)&half : (void *)&number, size);
+    }
 }
 
 /* Reads the case that starts here, and answers where the next one does. */
-static const uint8_t *read_case(const uint8_t *at)
+static uint8_t *read_case(uint8_t *at)
 {
     now.call = (uint32_t)little(at, 4);
     require(now.call < CALLS, "the file has an unknown call");
     now.answer = (uint32_t)little(at + 4, 4);
-    now.hash = (uint32_t)little(at + 8, 4);
-    now.tenant = (uint32_t)little(at + 12, 4);
-    now.number = little(at + 16, 8);
-    now.places = (size_t)little(at + 36, 4);
-    const uint8_t *after = at + HEAD;
+    for (int i = 0; i < NUMBERS; i++)
+        now.numbers[i] = little(at + 8 + 8 * i, 8);
+    uint8_t *given = at + HEAD + BUFFERS * BUFFER_HEAD;
     for (int i = 0; i < BUFFERS; i++) {
-        now.bytes[i] = after;
-        now.lengths[i] = i == OUTPUT ? now.places * calls[now.call].place_bytes : (size_t)little(at + 24 + 4 * i, 4);
-        after += i == OUTPUT && now.answer != 0 ? 0 : now.lengths[i];
+        const uint8_t *head = at + HEAD + i * BUFFER_HEAD;
+        struct buffer *buffer = &now.buffers[i];
+        buffer->size = (size_t)little(head, 4);
+        buffer->count = (size_t)little(head + 4, 4);
+        buffer->given_length = buffer->size * (size_t)little(head + 8, 4);
+        buffer->given = given;
+        size_t length = buffer->size * buffer->count;
+        require(i < INPUTS ? buffer->given_length == length : buffer->given_length <= length, "the file gives a buffer wrongly");
+        if (buffer->size > 1)
+            turn_numbers(given, buffer->given_length, buffer->size);
+        given += buffer->given_length;
     }
-    return after;
+    return given;
 }
 
 static uint8_t *read_file(const char *name, size_t *length)
@@ -286,7 +376,7 @@ int main(int count, char **words)
     signal(SIGBUS, stopped);
     signal(SIGILL, stopped);
     signal(SIGFPE, stopped);
-    const uint8_t *at = content + 20;
+    uint8_t *at = content + 20;
     for (now.place = 0; now.place < cases; now.place++) {
         at = read_case(at);
         for (way = 0; way < WAYS && (only == cases || only == now.place); way++)

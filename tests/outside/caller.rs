@@ -1,10 +1,12 @@
 // Calls the library from Rust on every case of a file that tests/outside/cases.py made, by declarations of its own, and compares
-// the number, each byte of the output and that the inputs are as they were.
+// the number, each byte of the outputs and that the inputs are as they were. A report that was written is also read back and
+// written again.
 //
 //     caller FILE [--case N]
 //
-// Each case runs twice, with other bytes in the output beforehand. An empty buffer is NULL the first time and a pointer that leads
+// Each case runs twice, with other bytes in the outputs beforehand. An empty buffer is NULL the first time and a pointer that leads
 // nowhere the second. The first failure ends the program.
+use std::array::from_fn;
 use std::process::exit;
 use std::ptr;
 
@@ -26,24 +28,37 @@ extern "C" {
     fn tirmuzzle_report_check(report: *const u8, report_length: usize, key: *const u8, key_length: usize) -> u32;
     fn tirmuzzle_report_read(report: *const u8, report_length: usize, fields: *mut u64, fields_count: usize) -> u32;
     fn tirmuzzle_report_site(report: *const u8, report_length: usize, place: u64, site: *mut u64, site_count: usize) -> u32;
+    fn tirmuzzle_report_write(hash: u32, tenant: u32, machine: u64, report_number: u64, send_time: u64, attempt: u8, memory: u64,
+                              labels: *const u8, labels_length: usize, label_lengths: *const u32, label_lengths_count: usize,
+                              live_bytes: *const u64, live_bytes_count: usize, live_blocks: *const u32, live_blocks_count: usize,
+                              key: *const u8, key_length: usize, out: *mut u8, out_length: usize, length: *mut u64) -> u32;
 }
 
-const NAMES: [&str; 10] = [
+const NAMES: [&str; 11] = [
     "digest", "tag", "verify", "extract", "expand",
-    "report_fingerprint", "report_keys", "report_check", "report_read", "report_site",
+    "report_fingerprint", "report_keys", "report_check", "report_read", "report_site", "report_write",
 ];
-const NUMBERS_WRITTEN: std::ops::RangeInclusive<u64> = 8..=9; // the calls whose output is 64-bit numbers
-const WITHOUT_OUTPUT: [u64; 2] = [2, 7];
+const WRITE: usize = 10;
+
+const NUMBERS: usize = 7;
+const INPUTS: usize = 5;
+const OUTPUT: usize = INPUTS; // after it comes the length that a call writes beside the output
+const BUFFERS: usize = INPUTS + 2;
+
+/// The bytes of an element, how many elements there are, and what the file gives: of an input all, of an output what the call must
+/// write.
+#[derive(Clone, Copy)]
+struct Buffer<'a> {
+    size: usize,
+    count: usize,
+    given: &'a [u8],
+}
 
 struct Case<'a> {
-    call: u64,
+    call: usize,
     answer: u32,
-    hash: u32,
-    tenant: u32,
-    number: u64,
-    inputs: [&'a [u8]; 3],
-    places: usize,
-    output: &'a [u8],
+    numbers: [u64; NUMBERS],
+    buffers: [Buffer<'a>; BUFFERS],
 }
 
 /// What is still to be read of the file.
@@ -60,81 +75,183 @@ impl<'a> Rest<'a> {
         self.bytes(length).iter().rev().fold(0, |number, byte| number << 8 | u64::from(*byte))
     }
 
-    fn short(&mut self) -> u32 {
-        self.number(4) as u32
+    fn size(&mut self) -> usize {
+        self.number(4) as usize
     }
 
     fn case(&mut self) -> Case<'a> {
-        let (call, answer, hash, tenant) = (self.number(4), self.short(), self.short(), self.short());
-        let number = self.number(8);
-        let lengths: [usize; 3] = [(); 3].map(|()| self.number(4) as usize);
-        let places = self.number(4) as usize;
-        let inputs = lengths.map(|length| self.bytes(length));
-        let written = answer == 0 && !WITHOUT_OUTPUT.contains(&call);
-        let place_bytes = if NUMBERS_WRITTEN.contains(&call) { 8 } else { 1 };
-        let output = self.bytes(if written { places * place_bytes } else { 0 });
-        Case { call, answer, hash, tenant, number, inputs, places, output }
+        let (call, answer) = (self.size(), self.number(4) as u32);
+        let numbers = [(); NUMBERS].map(|()| self.number(8));
+        let described = [(); BUFFERS].map(|()| (self.size(), self.size(), self.size()));
+        let buffers = described.map(|(size, count, given)| Buffer { size, count, given: self.bytes(size * given) });
+        Case { call, answer, numbers, buffers }
     }
 }
 
-fn read_pointer(bytes: &[u8], empty_is_null: bool) -> *const u8 {
-    if bytes.is_empty() && empty_is_null { ptr::null() } else { bytes.as_ptr() }
+/// The memory of a buffer, aligned for its elements.
+enum Lent {
+    Bytes(Box<[u8]>),
+    Halves(Box<[u32]>),
+    Words(Box<[u64]>),
 }
 
-fn write_pointer<T>(places: &mut [T], empty_is_null: bool) -> *mut T {
-    if places.is_empty() && empty_is_null { ptr::null_mut() } else { places.as_mut_ptr() }
-}
-
-/// The answer, and the output as bytes, numbers with the lowest byte first.
-fn called(case: &Case, inputs: &[Box<[u8]>; 3], filling: u8, null: bool) -> (u32, Vec<u8>) {
-    let [a, b, c] = [0, 1, 2].map(|i| read_pointer(&inputs[i], null));
-    let [a_length, b_length, c_length] = [0, 1, 2].map(|i| inputs[i].len());
-    let (hash, length) = (case.hash, case.number as usize);
-    let mut bytes = vec![filling; if NUMBERS_WRITTEN.contains(&case.call) { 0 } else { case.places }].into_boxed_slice();
-    let mut words = vec![u64::from_le_bytes([filling; 8]); case.places].into_boxed_slice();
-    let (out, out_length) = (write_pointer(&mut bytes, null), case.places);
-    let numbers = write_pointer(&mut words, null);
-    // Each pointer has the length beside it, and no two of one call overlap.
-    let answer = unsafe {
-        match case.call {
-            0 => tirmuzzle_digest(hash, a, a_length, out, out_length),
-            1 => tirmuzzle_tag(hash, a, a_length, b, b_length, length, out, out_length),
-            2 => tirmuzzle_verify(hash, a, a_length, b, b_length, length, c, c_length),
-            3 => tirmuzzle_extract(hash, a, a_length, b, b_length, out, out_length),
-            4 => tirmuzzle_expand(hash, a, a_length, b, b_length, out, out_length),
-            5 => tirmuzzle_report_fingerprint(a, a_length, b, b_length, out, out_length),
-            6 => tirmuzzle_report_keys(hash, a, a_length, case.tenant, case.number, out, out_length),
-            7 => tirmuzzle_report_check(a, a_length, b, b_length),
-            8 => tirmuzzle_report_read(a, a_length, numbers, out_length),
-            _ => tirmuzzle_report_site(a, a_length, case.number, numbers, out_length),
+impl Lent {
+    /// Memory that holds these bytes, numbers with the lowest byte first.
+    fn holding(bytes: &[u8], size: usize) -> Lent {
+        match size {
+            4 => Lent::Halves(bytes.chunks(4).map(|chunk| u32::from_le_bytes(chunk.try_into().unwrap())).collect()),
+            8 => Lent::Words(bytes.chunks(8).map(|chunk| u64::from_le_bytes(chunk.try_into().unwrap())).collect()),
+            _ => Lent::Bytes(bytes.into()),
         }
-    };
-    let found = if NUMBERS_WRITTEN.contains(&case.call) {
-        words.iter().flat_map(|word| word.to_le_bytes()).collect()
-    } else {
-        bytes.into_vec()
-    };
-    (answer, found)
+    }
+
+    fn content(&self) -> Vec<u8> {
+        match self {
+            Lent::Bytes(bytes) => bytes.to_vec(),
+            Lent::Halves(halves) => halves.iter().flat_map(|half| half.to_le_bytes()).collect(),
+            Lent::Words(words) => words.iter().flat_map(|word| word.to_le_bytes()).collect(),
+        }
+    }
+
+    fn count(&self) -> usize {
+        match self {
+            Lent::Bytes(bytes) => bytes.len(),
+            Lent::Halves(halves) => halves.len(),
+            Lent::Words(words) => words.len(),
+        }
+    }
+
+    fn pointer(&mut self, empty_is_null: bool) -> *mut u8 {
+        if self.count() == 0 && empty_is_null {
+            return ptr::null_mut();
+        }
+        match self {
+            Lent::Bytes(bytes) => bytes.as_mut_ptr(),
+            Lent::Halves(halves) => halves.as_mut_ptr().cast(),
+            Lent::Words(words) => words.as_mut_ptr().cast(),
+        }
+    }
+}
+
+/// What a buffer holds before the call, or must hold after it: what the file gives where `written`, and the filling in the rest.
+fn content(buffer: &Buffer, written: bool, filling: u8) -> Vec<u8> {
+    let mut content = if written { buffer.given.to_vec() } else { Vec::new() };
+    content.resize(buffer.size * buffer.count, filling);
+    content
+}
+
+fn called(case: &Case, lent: &mut [Lent; BUFFERS], null: bool) -> u32 {
+    let [a_count, b_count, c_count, d_count, e_count, out_count, _] = from_fn(|i| lent[i].count());
+    let [a, b, c, d, e, out, length] = from_fn(|i| lent[i].pointer(null));
+    let n = case.numbers;
+    let (hash, tag_length) = (n[0] as u32, n[1] as usize);
+    // Each pointer has how many elements it is good for beside it, and no two of one call overlap.
+    unsafe {
+        match case.call {
+            0 => tirmuzzle_digest(hash, a, a_count, out, out_count),
+            1 => tirmuzzle_tag(hash, a, a_count, b, b_count, tag_length, out, out_count),
+            2 => tirmuzzle_verify(hash, a, a_count, b, b_count, tag_length, c, c_count),
+            3 => tirmuzzle_extract(hash, a, a_count, b, b_count, out, out_count),
+            4 => tirmuzzle_expand(hash, a, a_count, b, b_count, out, out_count),
+            5 => tirmuzzle_report_fingerprint(a, a_count, b, b_count, out, out_count),
+            6 => tirmuzzle_report_keys(hash, a, a_count, n[1] as u32, n[2], out, out_count),
+            7 => tirmuzzle_report_check(a, a_count, b, b_count),
+            8 => tirmuzzle_report_read(a, a_count, out.cast(), out_count),
+            9 => tirmuzzle_report_site(a, a_count, n[0], out.cast(), out_count),
+            WRITE => tirmuzzle_report_write(
+                hash, n[1] as u32, n[2], n[3], n[4], n[5] as u8, n[6], a, a_count, b.cast(), b_count, c.cast(), c_count,
+                d.cast(), d_count, e, e_count, out, out_count, length.cast(),
+            ),
+            _ => panic!("the file has an unknown call"),
+        }
+    }
+}
+
+/// What comes of reading a written report and writing it again: the fields, the sites as the bytes of the four inputs that they
+/// were written from, and the report.
+struct Back {
+    numbers: Vec<u64>,
+    columns: [Vec<u8>; 4],
+    again: Vec<u8>,
+}
+
+fn read_back(report: &[u8], key: &[u8]) -> Result<Back, String> {
+    let done = |what: &str, answer: u32| if answer == 0 { Ok(()) } else { Err(format!("{what} answers {answer}")) };
+    let (mut fields, mut site) = ([0; 11], [0; 4]);
+    let (mut labels, mut lengths, mut live, mut blocks) = (Vec::new(), Vec::new(), Vec::new(), Vec::new());
+    let (mut again, mut length) = (vec![0; 3981], 0);
+    // As above; the vectors are as long as they say.
+    unsafe {
+        done("check", tirmuzzle_report_check(report.as_ptr(), report.len(), key.as_ptr(), key.len()))?;
+        done("read", tirmuzzle_report_read(report.as_ptr(), report.len(), fields.as_mut_ptr(), 11))?;
+        for place in 0..fields[9] {
+            done("site", tirmuzzle_report_site(report.as_ptr(), report.len(), place, site.as_mut_ptr(), 4))?;
+            labels.extend_from_slice(&report[site[0] as usize..][..site[1] as usize]);
+            lengths.push(site[1] as u32);
+            live.push(site[2]);
+            blocks.push(site[3] as u32);
+        }
+        let answer = tirmuzzle_report_write(
+            fields[2] as u32, fields[3] as u32, fields[4], fields[5], fields[6], fields[7] as u8, fields[8],
+            labels.as_ptr(), labels.len(), lengths.as_ptr(), lengths.len(), live.as_ptr(), live.len(), blocks.as_ptr(),
+            blocks.len(), key.as_ptr(), key.len(), again.as_mut_ptr(), again.len(), &mut length,
+        );
+        done("writing again", answer)?;
+    }
+    again.truncate(length as usize);
+    let columns = [
+        labels,
+        Lent::Halves(lengths.into()).content(),
+        Lent::Words(live.into()).content(),
+        Lent::Halves(blocks.into()).content(),
+    ];
+    Ok(Back { numbers: fields[2..9].to_vec(), columns, again })
+}
+
+/// What is wrong with a report that was written, where something is.
+fn wrong_when_read(case: &Case, report: &[u8]) -> Option<String> {
+    match read_back(report, case.buffers[4].given) {
+        Err(said) => Some(format!("of the written report, {said}")),
+        Ok(back) if back.numbers != case.numbers => Some("the written report has other fields".into()),
+        Ok(back) if (0..4).any(|i| back.columns[i] != case.buffers[i].given) => Some("the written report has other sites".into()),
+        Ok(back) if back.again != report => Some("the written report, read and written again, is another".into()),
+        Ok(_) => None,
+    }
 }
 
 fn hex(bytes: &[u8]) -> String {
     bytes.iter().map(|byte| format!("{byte:02x}")).collect()
 }
 
+fn wrong(case: &Case, answer: u32, found: &[Vec<u8>; BUFFERS], filling: u8) -> Option<String> {
+    if answer != case.answer {
+        return Some("another answer".into());
+    }
+    for (place, buffer) in case.buffers.iter().enumerate() {
+        if found[place] != content(buffer, true, filling) {
+            return Some(if place < INPUTS { "an input was changed" } else { "another output or length" }.into());
+        }
+    }
+    let written = case.buffers[OUTPUT].given;
+    if case.call == WRITE && answer == 0 { wrong_when_read(case, written) } else { None }
+}
+
 fn run(case: &Case, place: u64, seed: u64) {
     for (filling, null) in [(0x5a, true), (0xc3, false)] {
-        let inputs = case.inputs.map(Box::<[u8]>::from);
-        let (answer, found) = called(case, &inputs, filling, null);
-        let expected = if case.answer == 0 { case.output.to_vec() } else { vec![filling; found.len()] };
-        let unchanged = (0..3).all(|i| *inputs[i] == *case.inputs[i]);
-        if answer != case.answer || found != expected || !unchanged {
-            eprintln!("caller.rs: case {place}, {}, inputs unchanged: {unchanged}", NAMES[case.call as usize]);
-            eprintln!("  hash {}, tenant {}, tag length, machine or place {}", case.hash, case.tenant, case.number);
-            for input in case.inputs {
-                eprintln!("  input, {} bytes: {}", input.len(), hex(input));
+        let mut lent = from_fn(|i| Lent::holding(&content(&case.buffers[i], i < INPUTS, filling), case.buffers[i].size));
+        let answer = called(case, &mut lent, null);
+        let found = from_fn(|i| lent[i].content());
+        if let Some(wrong) = wrong(case, answer, &found, filling) {
+            eprintln!("caller.rs: case {place}, {}: {wrong}", NAMES[case.call]);
+            eprintln!("  numbers in the order of the parameters, then zeros: {:?}", case.numbers);
+            for input in &case.buffers[..INPUTS] {
+                eprintln!("  input, {} bytes: {}", input.given.len(), hex(input.given));
             }
-            eprintln!("  expected answer: {}, output: {}", case.answer, hex(&expected));
-            eprintln!("  found answer: {answer}, output: {}", hex(&found));
+            eprintln!("  expected answer: {}, found: {answer}", case.answer);
+            for output in OUTPUT..BUFFERS {
+                eprintln!("  expected output: {}", hex(&content(&case.buffers[output], true, filling)));
+                eprintln!("  found output:    {}", hex(&found[output]));
+            }
             eprintln!("  again: tests/outside/run --seed {seed} --case {place}");
             exit(1);
         }

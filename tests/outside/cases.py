@@ -6,18 +6,20 @@
 The cases are the same in every run with the same seed. The file has, with numbers' lowest bytes first: 8 bytes "TIRMUZZL", the seed
 in 8, how many cases in 4, and then the cases one after the other, each as
 
-    4  the call, its place in CALLS below
-    4  the number that it must answer
-    4  hash          (0 where the call takes none, as for the next two)
-    4  tenant
-    8  tag length, machine or place
-    4  bytes of the first input, 4 of the second, 4 of the third, in the order of the C parameters; 0 where there is none
-    4  places of the output: bytes, or 64-bit numbers for report_read and report_site
-    then the bytes of the inputs, and, where the answer is 0, those that the output must hold, with numbers in 8 bytes.
+    4   the call, its place in CALLS below
+    4   the number that it must answer
+    56  the numbers that it takes, 8 bytes each, in the order of the C parameters, then zeros up to seven
+    60  the inputs, in the order of the C parameters, up to five
+    24  the outputs, up to two: the second is what length points to
+        then, input by input and output by output, the elements that the file gives
 
-Where the answer is not 0 the output must stay as it was. A caller hands an empty buffer over as NULL and as a pointer by turns, so
-that no case says which."""
+with 12 bytes for an input or output, all of them 0 where the call has none: how many bytes an element has (1, 4 or 8), how many
+elements there are, and how many of them the file gives. Of an input it gives all, and of an output those that the call must write:
+from the first on, and none where it must write nothing. The others must stay as they were.
+
+A caller hands an empty buffer over as NULL and as a pointer by turns, so that no case says which."""
 import collections
+import itertools
 import pathlib
 import random
 import struct
@@ -26,27 +28,32 @@ import sys
 sys.dont_write_bytecode = True  # tests/ holds sources only
 sys.path.insert(0, str(pathlib.Path(__file__).resolve().parent.parent))
 import answers
-from report_cases import FAULTS, FREE_FIELDS, LAYOUT, big, counted, faulty, made, of_length, site, with_byte
+import report_rules
+from report_cases import (
+    FAULTS, FREE_FIELDS, KEY, LAYOUT, MOST_REPORT_BYTES, WORKED, big, counted, faulty, made, of_length, site, with_byte,
+)
 from report_rules import BLOCK_BYTES, DIGEST_BYTES, HASHES, TAG_BYTES, full_tag
 
 SEED = 20180
 
 CALLS = (
     "digest", "tag", "verify", "extract", "expand",
-    "report_fingerprint", "report_keys", "report_check", "report_read", "report_site",
+    "report_fingerprint", "report_keys", "report_check", "report_read", "report_site", "report_write",
 )
 # The numbers that each call can be brought to answer here. 3 and 4 take more than 4 GiB, and are left to limits.c.
 READING = (0, 2, 11, 12, 13, 14, 15, 16)
 NUMBERS = dict(
     digest=(0, 2, 6), tag=(0, 2, 5, 6), verify=(0, 1, 2, 5, 6), extract=(0, 2, 6), expand=(0, 2, 7, 8, 9),
     report_fingerprint=READING + (6,), report_keys=(0, 2, 6, 7), report_check=READING + (1,), report_read=READING + (6,),
-    report_site=READING + (17, 6),
+    report_site=READING + (17, 6), report_write=(0, 2, 6, 13, 14, 15, 16, 18),
 )
 # How many buffers each call takes, inputs and output together.
 BUFFERS = dict(
     digest=2, tag=3, verify=3, extract=3, expand=3,
-    report_fingerprint=3, report_keys=2, report_check=2, report_read=2, report_site=2,
+    report_fingerprint=3, report_keys=2, report_check=2, report_read=2, report_site=2, report_write=6,
 )
+# How many numbers, inputs and outputs a case has in the file.
+MOST_NUMBERS, MOST_INPUTS, MOST_OUTPUTS = 7, 5, 2
 
 UNKNOWN_HASHES = (0, 3, 4, 255, 256, 257, 258, 2**16 + 1, 2**31, 2**31 + 1, 2**32 - 1)
 LENGTHS = range(301)
@@ -54,7 +61,12 @@ LONG_LENGTHS = (1000, 4097, 20000)
 LONGEST_LENGTHS = (65535, 65536, 2**20 - 1, 2**20)
 BEYOND_32_BITS = (2**32, 2**32 + 16, 2**32 + 32, 2**63, 2**64 - 1)
 
-Case = collections.namedtuple("Case", "call answer hash tenant number inputs places output")
+# An input or an output: the bytes of an element, how many elements there are, and the bytes of those that the file gives.
+Buffer = collections.namedtuple("Buffer", "size count given")
+NO_BUFFER = Buffer(0, 0, b"")
+Case = collections.namedtuple("Case", "call answer numbers inputs outputs")
+# Sites as report_write takes them.
+Columns = collections.namedtuple("Columns", "labels lengths live blocks")
 
 
 def hold(holds, what):
@@ -62,54 +74,83 @@ def hold(holds, what):
         sys.exit(f"tests/outside/cases.py: {what}")
 
 
-def case(call, answered, inputs, places=0, hash=0, tenant=0, number=0):
-    answer, output = answered
-    return Case(call, answer, hash, tenant, number, inputs, places, output or b"")
+def of_bytes(content):
+    return Buffer(1, len(content), content)
+
+
+def of_numbers(numbers, size):
+    return Buffer(size, len(numbers), answers.in_words(numbers, size))
+
+
+def case(call, answered, numbers, inputs, places=None, size=1):
+    """A case whose inputs are bytes, and whose output, where there is one, has places of so many bytes."""
+    answer, written = answered
+    outputs = [] if places is None else [Buffer(size, places, written or b"")]
+    return Case(call, answer, numbers, list(map(of_bytes, inputs)), outputs)
 
 
 def digest(hash, message, size=None):
     size = DIGEST_BYTES[hash] if size is None else size
-    return case("digest", answers.digest(hash, message, size), [message], size, hash)
+    return case("digest", answers.digest(hash, message, size), [hash], [message], size)
 
 
 def tag(hash, key, message, length, size=None):
     size = length if size is None else size
-    return case("tag", answers.tag(hash, key, message, length, size), [key, message], size, hash, number=length)
+    return case("tag", answers.tag(hash, key, message, length, size), [hash, length], [key, message], size)
 
 
 def verify(hash, key, message, length, presented):
-    answered = answers.verify(hash, key, message, length, presented)
-    return case("verify", answered, [key, message, presented], 0, hash, number=length)
+    return case("verify", answers.verify(hash, key, message, length, presented), [hash, length], [key, message, presented])
 
 
 def extract(hash, salt, material, size=None):
     size = DIGEST_BYTES[hash] if size is None else size
-    return case("extract", answers.extract(hash, salt, material, size), [salt, material], size, hash)
+    return case("extract", answers.extract(hash, salt, material, size), [hash], [salt, material], size)
 
 
 def expand(hash, prk, info, size):
-    return case("expand", answers.expand(hash, prk, info, size), [prk, info], size, hash)
+    return case("expand", answers.expand(hash, prk, info, size), [hash], [prk, info], size)
 
 
 def keys(hash, prk, tenant, machine, size):
-    answered = answers.report_keys(hash, prk, tenant, machine, size)
-    return case("report_keys", answered, [prk], size, hash, tenant, machine)
+    return case("report_keys", answers.report_keys(hash, prk, tenant, machine, size), [hash, tenant, machine], [prk], size)
 
 
 def fingerprint(report, key, size=32):
-    return case("report_fingerprint", answers.report_fingerprint(report, key, size), [report, key], size)
+    return case("report_fingerprint", answers.report_fingerprint(report, key, size), [], [report, key], size)
 
 
 def check(report, key):
-    return case("report_check", answers.report_check(report, key), [report, key])
+    return case("report_check", answers.report_check(report, key), [], [report, key])
 
 
 def read(report, places=11):
-    return case("report_read", answers.report_read(report, places), [report], places)
+    return case("report_read", answers.report_read(report, places), [], [report], places, 8)
 
 
 def site_at(report, place, places=4):
-    return case("report_site", answers.report_site(report, place, places), [report], places, number=place)
+    return case("report_site", answers.report_site(report, place, places), [place], [report], places, 8)
+
+
+def write(heading, columns, key=b"key", size=MOST_REPORT_BYTES, made_for=None):
+    """The case of writing a report; where it was made for a number, the rules are held to that."""
+    answer, written, length = answers.report_write(heading, *columns, key, size)
+    hold(made_for in (None, answer), f"a report to be written, made for {made_for}, answers {answer}")
+    labels, lengths, live, blocks = columns
+    inputs = [of_bytes(labels), of_numbers(lengths, 4), of_numbers(live, 8), of_numbers(blocks, 4), of_bytes(key)]
+    return Case("report_write", answer, heading, inputs, [Buffer(1, size, written or b""), of_numbers([length], 8)])
+
+
+def write_again(report, key, size=None):
+    """The case of writing what a report with a right tag reads as, which gives the report itself."""
+    _, fields = report_rules.read(report)
+    places = range(fields[9])
+    numbers = [report_rules.site(report, place)[1] for place in places]
+    labels = b"".join(report_rules.label(report, place)[1] for place in places)
+    columns = Columns(labels, *([each[i] for each in numbers] for i in (1, 2, 3)))
+    again = write(fields[2:9], columns, key, len(report) if size is None else size)
+    hold(again.answer == 18 or again.outputs[0].given == report, "a report read and written again is another")
+    return again
 
 
 def block_edges(hash):
@@ -265,6 +306,23 @@ def drawn_report(source, hash, sites, key):
     return made(sites, hash=hash, key=key, **fields)
 
 
+def heading(**changed):
+    """The fields of the worked report that report_write takes, but for what is changed."""
+    fields = {**WORKED, **changed}
+    return [fields[name] for name in LAYOUT if name != "version"]
+
+
+def drawn_columns(source, lengths, labels_length=None):
+    """Sites with labels of these lengths, though of so many bytes in all where that is said; their live bytes never add up to too
+    much."""
+    labels = source.randbytes(sum(lengths) if labels_length is None else labels_length)
+    return Columns(labels, lengths, [source.getrandbits(57) for _ in lengths], [source.getrandbits(32) for _ in lengths])
+
+
+def written_length(hash, lengths):
+    return 45 + sum(lengths) + 13 * len(lengths) + TAG_BYTES[hash]
+
+
 def asked(source, report, key):
     """Every call on a report, good or damaged, the site at a place that is often there."""
     yield read(report)
@@ -290,6 +348,8 @@ def good_reports(source):
                 yield read(report, places)
             for size in (0, 16, 31, 33, 64):
                 yield fingerprint(report, key, size)
+            for size in (0, len(report) - 1, len(report), len(report) + 1, MOST_REPORT_BYTES):
+                yield write_again(report, key, size)
         smallest = made((), hash=hash)
         hold(len(smallest) == {1: 61, 2: 77}[hash], "the smallest report has another size")
         largest = made([site(bytes([i + 1]) * 48, 2**58 - 1, i) for i in range(64)], hash=hash)
@@ -298,6 +358,7 @@ def good_reports(source):
             yield site_at(largest, place)
         for report in (smallest, largest):
             yield from asked(source, report, b"key")
+            yield write_again(report, KEY)
 
 
 def report_keys_of_every_length(source):
@@ -310,6 +371,7 @@ def report_keys_of_every_length(source):
             yield check(report, key)
             yield check(report, key + b"\0")
             yield fingerprint(report, key)
+            yield write_again(report, key)
         tag_start = len(report) - TAG_BYTES[hash]
         for at in range(tag_start, len(report)):
             for bit in range(8):
@@ -385,12 +447,127 @@ def sums(source):
     for hash in HASHES:
         for live in fitting + [live + [1] for live in fitting] + [[2**58] * 63 + [2**58 - 1]] + too_large:
             yield from asked(source, made([site(b"s", size) for size in live], hash=hash), b"key")
+            yield write(heading(hash=hash), Columns(b"s" * len(live), [1] * len(live), live, [2] * len(live)))
+
+
+def written_fields(source):
+    """Each field at its limits and between, then all of them, with labels of every byte."""
+    columns = Columns(bytes(range(256)), [48] * 5 + [16], [1, 2, 3, 4, 5, 6], [6, 5, 4, 3, 2, 2**32 - 1])
+    for hash in HASHES:
+        for name in FREE_FIELDS:
+            bits = 8 * LAYOUT[name]
+            for value in (0, 1, 2 ** (bits - 1), 2**bits - 2, 2**bits - 1, int.from_bytes(bytes(range(1, bits // 8 + 1)), "big")):
+                yield write(heading(hash=hash, **{name: value}), columns, made_for=0)
+        for byte in (b"\0", b"\xff", b"\x80"):
+            yield write(heading(hash=hash, **{name: int.from_bytes(byte * LAYOUT[name], "big") for name in FREE_FIELDS}), columns)
+    for hash in UNKNOWN_HASHES:
+        for lengths in ([], [1], [48] * 64):
+            yield write(heading(hash=hash), drawn_columns(source, lengths), made_for=2)
+
+
+def written_buffers(source):
+    """Outputs on both sides of what the report takes, from none to more than the largest."""
+    for hash, tag_bytes in TAG_BYTES.items():
+        for lengths in ([], [1], [48], [1, 48], [48] * 64):
+            columns = drawn_columns(source, lengths)
+            whole = written_length(hash, lengths)
+            for size in sorted({0, 1, 45, whole - tag_bytes - 1, whole - tag_bytes, whole - 1}):
+                yield write(heading(hash=hash), columns, KEY, size, 18)
+            for size in (whole, whole + 1, whole + tag_bytes, whole + 200, 70000):
+                yield write(heading(hash=hash), columns, KEY, size, 0)
+
+
+def unequal_columns(source):
+    """Each column longer and shorter than the others, all three unequal, and counts whose low bits are equal."""
+    for hash, count, *steps in (
+        (1, 0, 1, 256), (2, 0, 1), (1, 1, 1, 256, 65536), (2, 1, 1), (1, 2, 1, 64), (2, 2, 1, 256),
+        (1, 63, 1, 2), (2, 63, 1), (1, 64, 1, 256), (2, 64, 1), (1, 65, 1), (2, 65, 1, 256),
+    ):
+        fields = heading(hash=hash)
+        columns = drawn_columns(source, [2] * count)
+        yield write(fields, columns, made_for=13 if count > 64 else 0)
+        for step in steps:
+            longer = drawn_columns(source, [2] * (count + step))
+            for some, others in ((columns, longer), (longer, columns)):
+                yield write(fields, some._replace(labels=others.labels, lengths=others.lengths), made_for=6)
+                yield write(fields, some._replace(live=others.live), made_for=6)
+                yield write(fields, some._replace(blocks=others.blocks), made_for=6)
+        yield write(fields, columns._replace(live=columns.live + [1], blocks=columns.blocks + [1, 2]), made_for=6)
+    for hash in HASHES:
+        for count in (65, 66, 128, 256, 257, 320, 65537):
+            yield write(heading(hash=hash), drawn_columns(source, [1] * count), made_for=13)
+
+
+def written_label_lengths(source):
+    """Label lengths on both sides of their limits, in each place; then such that are wider than a byte, with as many bytes of labels
+    as the lowest byte says, and such whose sum passes 2^32."""
+    for hash in HASHES:
+        for place in range(3):
+            for length in (0, 1, 2, 47, 48, 49, 128, 255, 256, 257, 304, 2**16 + 1):
+                lengths = [length if at == place else 5 + at for at in range(3)]
+                yield write(heading(hash=hash), drawn_columns(source, lengths), made_for=0 if 1 <= length <= 48 else 14)
+            for length in (256, 257, 304, 2**16 + 1, 2**24 + 1, 2**31, 2**31 + 1, 2**32 - 1):
+                lengths = [length if at == place else 5 + at for at in range(3)]
+                yield write(heading(hash=hash), drawn_columns(source, lengths, sum(each % 256 for each in lengths)), made_for=14)
+        for lengths in ([2**32 - 1, 1], [2**32 - 1, 6], [2**31] * 2, [2**31, 2**31, 5], [2**26] * 64):
+            yield write(heading(hash=hash), drawn_columns(source, lengths, sum(lengths) % 2**32), made_for=14)
+
+
+def written_labels(source):
+    """Labels of fewer and of more bytes than their lengths add up to."""
+    for hash in HASHES:
+        for lengths in ([], [1], [48], [1, 48], [5, 6, 7], [48] * 64):
+            whole = sum(lengths)
+            for length in sorted({0, 1, max(whole, 1) - 1, whole + 1, whole + 48, whole + 2**8, 2**16, whole + 2**16} - {whole}):
+                yield write(heading(hash=hash), drawn_columns(source, lengths, length), made_for=15)
+
+
+# What can be wrong with a report to be written, in the order of the checks that find it, with the numbers.
+WRITING_FAULTS = dict(hash=2, unequal=6, many=13, length=14, labels=15, sum=16, short=18)
+
+
+def faulty_write(source, hash, faults):
+    """A report to be written with these faults."""
+    lengths = [source.randint(1, 48) for _ in range(65 if "many" in faults else 3)]
+    if "length" in faults:
+        lengths[source.randrange(len(lengths))] = source.choice((0, 49))
+    columns = drawn_columns(source, lengths, sum(lengths) + source.choice((-1, 1)) if "labels" in faults else None)
+    if "sum" in faults:
+        columns = columns._replace(live=[2**64 - 1] + columns.live[1:-1] + [1])
+    if "unequal" in faults:
+        name = source.choice(("lengths", "live", "blocks"))
+        column = getattr(columns, name)
+        columns = columns._replace(**{name: source.choice((column[1:], column + column[:1]))})
+    size = written_length(hash, lengths)
+    if "short" in faults:
+        size -= source.choice((1, TAG_BYTES[hash], size))
+    number = next((number for fault, number in WRITING_FAULTS.items() if fault in faults), 0)
+    return write(heading(hash=hash + 2 if "hash" in faults else hash), columns, KEY, size, number)
+
+
+def two_faults_of_writing(source):
+    """Every two faults at once, each with all that come after it, and each alone."""
+    names = list(WRITING_FAULTS)
+    for hash in HASHES:
+        for _ in range(8):
+            yield from (faulty_write(source, hash, faults) for faults in itertools.combinations(names, 2))
+            yield from (faulty_write(source, hash, names[place:]) for place in range(len(names) + 1))
+            yield from (faulty_write(source, hash, [name]) for name in names)
+
+
+def drawn_writes(source):
+    for _ in range(400):
+        fields = {name: source.getrandbits(source.randrange(1, 8 * LAYOUT[name] + 1)) for name in FREE_FIELDS}
+        lengths = [source.choice((1, 2, 48, source.randint(1, 48))) for _ in range(source.randrange(9))]
+        key = source.randbytes(source.randrange(200))
+        yield write(heading(hash=source.choice((1, 2)), **fields), drawn_columns(source, lengths), key, source.randrange(900))
 
 
 def all_cases(source):
     for part in (
         digests, tags, verifications, extractions, expansions, key_pairs, good_reports, report_keys_of_every_length,
-        damaged_reports, two_damages, noise, sums,
+        damaged_reports, two_damages, noise, sums, written_fields, written_buffers, unequal_columns, written_label_lengths,
+        written_labels, two_faults_of_writing, drawn_writes,
     ):
         yield from part(source)
 
@@ -406,20 +583,24 @@ def hold_to_numbers(cases):
     hold(len(reached) == sum(map(len, NUMBERS.values())), "a call answers a number that is not its own")
     empty = collections.Counter()
     for case in cases:
-        lengths = [len(given) for given in case.inputs] + ([case.places] if len(case.inputs) < BUFFERS[case.call] else [])
-        hold(len(lengths) == BUFFERS[case.call], f"a case of {case.call} has another number of buffers")
-        empty.update((case.call, place) for place, length in enumerate(lengths) if length == 0)
+        buffers = case.inputs + case.outputs[:1]
+        hold(len(buffers) == BUFFERS[case.call], f"a case of {case.call} has another number of buffers")
+        empty.update((case.call, place) for place, buffer in enumerate(buffers) if buffer.count == 0)
     for call, buffers in BUFFERS.items():
         for place in range(buffers):
             hold(empty[call, place], f"buffer {place + 1} of {call} is never empty")
 
 
+def filled_up(given, count, filling):
+    return given + [filling] * (count - len(given))
+
+
 def record(case):
-    lengths = [len(given) for given in case.inputs] + [0] * (3 - len(case.inputs))
-    head = struct.pack(
-        "<IIIIQIIII", CALLS.index(case.call), case.answer, case.hash, case.tenant, case.number, *lengths, case.places
-    )
-    return head + b"".join(case.inputs) + case.output
+    buffers = filled_up(case.inputs, MOST_INPUTS, NO_BUFFER) + filled_up(case.outputs, MOST_OUTPUTS, NO_BUFFER)
+    head = struct.pack(f"<II{MOST_NUMBERS}Q", CALLS.index(case.call), case.answer, *filled_up(case.numbers, MOST_NUMBERS, 0))
+    for size, count, given in buffers:
+        head += struct.pack("<III", size, count, len(given) // max(size, 1))
+    return head + b"".join(buffer.given for buffer in buffers)
 
 
 def main(arguments):

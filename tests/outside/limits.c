@@ -14,6 +14,7 @@
 
 #define MOST 4294967295u
 enum { MARGIN = 4096, SHA512_BLOCK = 128, FULL = TIRMUZZLE_SHA512_DIGEST, OUT = 2 * FULL, FILLING = 0xa5 };
+enum { SITES = 2, REPORT = 106 }; /* of the report that is written, under SHA-512 */
 
 static const uint8_t abc[] = {'a', 'b', 'c'}, key[] = {'k', 'e', 'y'};
 static uint8_t *zeros, out[OUT];
@@ -45,7 +46,7 @@ static void refuses(const char *what, uint32_t expected, uint32_t answer)
 static void gives(const char *what, const char *expected, uint32_t answer)
 {
     require(answer == TIRMUZZLE_DONE, what);
-    for (size_t i = 0; i < FULL; i++) {
+    for (size_t i = 0; i < strlen(expected) / 2; i++) {
         char digits[3];
         snprintf(digits, sizeof digits, "%02x", out[i]);
         require(memcmp(digits, expected + 2 * i, 2) == 0, what);
@@ -92,6 +93,32 @@ static void refused_reports(void)
     refuses("fingerprint, longer", 11, tirmuzzle_report_fingerprint(zeros, longer, key, 3, out, 32));
 }
 
+/* What writing a report answers, of two sites with these live bytes each and these labels, under a key of zeros. */
+static uint32_t writing(uint32_t hash, uint64_t live, const uint8_t *labels, size_t labels_length, size_t key_length,
+                        size_t out_length)
+{
+    static const uint32_t label_lengths[SITES] = {2, 1}, live_blocks[SITES] = {3, 4};
+    uint64_t live_bytes[SITES] = {live, live}, length = MOST;
+    uint32_t answer = tirmuzzle_report_write(hash, 7, 258, 9, 1000, 0, 1 << 30, labels, labels_length, label_lengths, SITES,
+                                             live_bytes, SITES, live_blocks, SITES, zeros, key_length, out, out_length, &length);
+    require(length == (answer == TIRMUZZLE_DONE ? REPORT : 0), "write, length");
+    return answer;
+}
+
+/* A key that is too long to write a report, alone, beside earlier refusals and beside the later one; then labels that are 4 GiB
+ * longer than their lengths say. */
+static void refused_writing(uint32_t hash)
+{
+    size_t over = (size_t)MOST + 1;
+    refuses("write, key", 3, writing(hash, 5, abc, 3, over, OUT));
+    refuses("write, key and live bytes", 16, writing(hash, (uint64_t)1 << 63, abc, 3, over, OUT));
+    refuses("write, key and labels", 15, writing(hash, 5, abc, 2, over, OUT));
+    refuses("write, key and a short buffer", 3, writing(hash, 5, abc, 3, over, 1));
+    refuses("write, longest key and a short buffer", 18, writing(hash, 5, abc, 3, MOST, 1));
+    refuses("write, key and no hash", 2, writing(hash + 2, 5, abc, 3, over, OUT));
+    refuses("write, longer labels", 15, writing(hash, 5, zeros, over + 3, 3, OUT));
+}
+
 /* The most bytes that are taken; the values are those of Python's hashlib and hmac. */
 static void taken_lengths(void)
 {
@@ -107,6 +134,12 @@ static void taken_lengths(void)
           "5f69b5dc1ae5dc7d020d1664bf1104126ecc30feb5543c12895533f40224ef7c"
           "c8d2dade9cef68bf9439c4461a29f00f48cc5c2f0ecdfdc43d4d2e200398aa95",
           tirmuzzle_tag(TIRMUZZLE_SHA512, key, 3, zeros, MOST - SHA512_BLOCK, FULL, out, FULL));
+    gives("report written under the longest key",
+          "0000006601020000000700000000000001020000000000000009000000000000"
+          "03e8000000000040000000000202616200000000000000050000000301630000"
+          "00000000000500000004285c7cf5ad62bc951e55ff178bb2a49a9262f8dfc5a3"
+          "e7a865b48ed4fce789d8",
+          writing(TIRMUZZLE_SHA512, 5, abc, 3, MOST, OUT));
 }
 
 int main(int count, char **arguments)
@@ -119,6 +152,8 @@ int main(int count, char **arguments)
         refused_lengths(TIRMUZZLE_SHA256, TIRMUZZLE_SHA256_DIGEST, 64);
         refused_lengths(TIRMUZZLE_SHA512, TIRMUZZLE_SHA512_DIGEST, SHA512_BLOCK);
         refused_reports();
+        refused_writing(TIRMUZZLE_SHA256);
+        refused_writing(TIRMUZZLE_SHA512);
     } else {
         taken_lengths();
     }

@@ -13,13 +13,15 @@
 #include <sys/mman.h>
 
 enum { STACK = 1 << 17, MARGIN = 128, KEY = 300, MESSAGE = 5000, INFO = 1024, LONGEST_OUTPUT = 255 * TIRMUZZLE_SHA512_DIGEST };
-enum { LAST_SITE = TIRMUZZLE_MOST_SITES - 1 };
+enum { SITES = TIRMUZZLE_MOST_SITES, LAST_SITE = SITES - 1, LABELS = SITES * TIRMUZZLE_LONGEST_LABEL };
 
-static uint8_t key[KEY], message[MESSAGE], out[LONGEST_OUTPUT], report[TIRMUZZLE_LARGEST_REPORT];
+static uint8_t key[KEY], message[MESSAGE], out[LONGEST_OUTPUT], report[TIRMUZZLE_LARGEST_REPORT], labels[LABELS];
+static uint32_t label_lengths[SITES], live_blocks[SITES];
+static uint64_t live_bytes[SITES];
 static const uint8_t no_tag[TIRMUZZLE_SHA512_DIGEST];
 static uint8_t *stack; /* the lowest byte of the thread's stack */
-static uint64_t words[TIRMUZZLE_FIELDS];
-static size_t report_length, digest_length, keys_length;
+static uint64_t words[TIRMUZZLE_FIELDS], report_length;
+static size_t digest_length, keys_length;
 static uint32_t hash;
 
 static uint32_t digest(void) { return tirmuzzle_digest(hash, message, MESSAGE, out, digest_length); }
@@ -33,6 +35,13 @@ static uint32_t check(void) { return tirmuzzle_report_check(report, report_lengt
 static uint32_t read(void) { return tirmuzzle_report_read(report, report_length, words, TIRMUZZLE_FIELDS); }
 static uint32_t site(void) { return tirmuzzle_report_site(report, report_length, LAST_SITE, words, TIRMUZZLE_SITE_NUMBERS); }
 
+/* Writes the largest report under the hash: the most sites, each with the longest label. */
+static uint32_t write(void)
+{
+    return tirmuzzle_report_write(hash, 7, 258, 9, 1000, 0, 1 << 30, labels, LABELS, label_lengths, SITES, live_bytes, SITES,
+                                  live_blocks, SITES, key, KEY, report, TIRMUZZLE_LARGEST_REPORT, &report_length);
+}
+
 /* Each call, the number that it answers here, and the most bytes of stack that docs/LIMITS.md allows it. */
 static const struct {
     const char *name;
@@ -44,6 +53,7 @@ static const struct {
     {"tirmuzzle_verify", verify, 1, 5120},
     {"tirmuzzle_extract", extract, 0, 5120},
     {"tirmuzzle_expand", expand, 0, 6144},
+    {"tirmuzzle_report_write", write, 0, 6144},
     {"tirmuzzle_report_fingerprint", fingerprint, 0, 5120},
     {"tirmuzzle_digest", digest, 0, 3072},
     {"tirmuzzle_report_keys", keys, 0, 6144},
@@ -85,26 +95,11 @@ static void *on_own_stack(void *pointer)
     return NULL;
 }
 
-static void put_number(size_t at, uint64_t number, int bytes)
-{
-    while (bytes-- > 0)
-        report[at++] = (uint8_t)(number >> 8 * bytes);
-}
-
-/* The largest report under the hash: the most sites, each with the longest label. The tag is left zero, so that it differs. */
+/* The largest report under the hash, with a tag that differs in a bit. */
 static void build_report(void)
 {
-    size_t at = 45;
-    put_number(4, 1, 1);
-    put_number(5, hash, 1);
-    put_number(43, TIRMUZZLE_MOST_SITES, 2);
-    for (int i = 0; i < TIRMUZZLE_MOST_SITES; i++) {
-        put_number(at, TIRMUZZLE_LONGEST_LABEL, 1);
-        at += 1 + TIRMUZZLE_LONGEST_LABEL + 8 + 4;
-    }
-    report_length = at + (hash == TIRMUZZLE_SHA256 ? TIRMUZZLE_SHA256_REPORT_TAG : TIRMUZZLE_SHA512_REPORT_TAG);
-    require(report_length <= TIRMUZZLE_LARGEST_REPORT, "a report is larger than the largest");
-    put_number(0, report_length - 4, 4);
+    require(write() == TIRMUZZLE_DONE, "the largest report is refused");
+    report[report_length - 1] ^= 1;
 }
 
 /* The bytes of stack that a call takes, where the stack is filled with this byte. */
@@ -125,6 +120,8 @@ int main(void)
     int over = 0;
     stack = mmap(NULL, STACK, PROT_READ | PROT_WRITE, MAP_PRIVATE | MAP_ANONYMOUS, -1, 0);
     require(stack != MAP_FAILED, "out of memory");
+    for (int i = 0; i < SITES; i++)
+        label_lengths[i] = TIRMUZZLE_LONGEST_LABEL;
     for (size_t call = 0; call < CALLS; call++) {
         size_t most = 0;
         for (hash = TIRMUZZLE_SHA256; hash <= TIRMUZZLE_SHA512; hash++) {

@@ -26,7 +26,7 @@ messageTooLong = 4
 abbrev pub tagLengthOutOfRange : ℕ
 tagLengthOutOfRange = 5
 
--- a presented tag, or an output of fixed size, is not of that size
+-- a presented tag, or an output of fixed size, is not of that size; or the slices of sites are of unequal length
 abbrev pub wrongSize : ℕ
 wrongSize = 6
 
@@ -62,7 +62,7 @@ tooManySites = 13
 abbrev pub labelLengthOutOfRange : ℕ
 labelLengthOutOfRange = 14
 
--- a site runs into the tag, or bytes are left between
+-- a site runs into the tag, or bytes are left between; or labels do not have as many bytes as their lengths add up to
 abbrev pub sitesMisplaced : ℕ
 sitesMisplaced = 15
 
@@ -73,6 +73,10 @@ sumTooLarge = 16
 -- there is no site at that place
 abbrev pub noSuchSite : ℕ
 noSuchSite = 17
+
+-- the buffer is too short for the report
+abbrev pub bufferTooShort : ℕ
+bufferTooShort = 18
 
 -- the most bytes of a key, and the most bytes hashed in all (refusals 3 and 4)
 abbrev pub mostBytes : ℕ

@@ -8,6 +8,7 @@ pub use hashes::block_size;
 pub use hashes::digest_size;
 pub use hashes::shortest_tag;
 pub use hashes::which;
+pub use refusals::BUFFER_TOO_SHORT;
 pub use refusals::DONE;
 pub use refusals::INFO_TOO_LONG;
 pub use refusals::KEY_TOO_LONG;

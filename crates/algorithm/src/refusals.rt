@@ -13,7 +13,7 @@ pub const KEY_TOO_LONG: u32 = 3;
 pub const MESSAGE_TOO_LONG: u32 = 4;
 // Tag length outside its range.
 pub const TAG_LENGTH_OUT_OF_RANGE: u32 = 5;
-// A presented tag, or an output of fixed size, is not of that size.
+// A presented tag, or an output of fixed size, is not of that size; or the slices of sites are of unequal length.
 pub const WRONG_SIZE: u32 = 6;
 // PRK shorter than a digest.
 pub const PRK_TOO_SHORT: u32 = 7;
@@ -31,12 +31,14 @@ pub const UNKNOWN_VERSION: u32 = 12;
 pub const TOO_MANY_SITES: u32 = 13;
 // A label's length is out of range.
 pub const LABEL_LENGTH_OUT_OF_RANGE: u32 = 14;
-// A site runs into the tag, or bytes are left between.
+// A site runs into the tag, or bytes are left between; or labels do not have as many bytes as their lengths add up to.
 pub const SITES_MISPLACED: u32 = 15;
 // The sum of live bytes is over 2^64 - 1.
 pub const SUM_TOO_LARGE: u32 = 16;
 // There is no site at that place.
 pub const NO_SUCH_SITE: u32 = 17;
+// The buffer is too short for the report.
+pub const BUFFER_TOO_SHORT: u32 = 18;
 
 // The most bytes of a key, and the most bytes hashed in all (refusals 3 and 4).
 pub const MOST_BYTES: u64 = 4294967295;

@@ -9,7 +9,7 @@ pub(crate) fn words(number: u32) -> [u8; 44] {
         3 => *b"3 key, salt or PRK over 4,294,967,295 bytes ",
         4 => *b"4 over 4,294,967,295 bytes hashed in all    ",
         5 => *b"5 tag length out of range                   ",
-        6 => *b"6 tag or output of another size             ",
+        6 => *b"6 tag or output size, or unequal slices     ",
         7 => *b"7 PRK shorter than a digest of its hash     ",
         8 => *b"8 info over 1,024 bytes                     ",
         9 => *b"9 output over 255 digests                   ",
@@ -21,6 +21,7 @@ pub(crate) fn words(number: u32) -> [u8; 44] {
         15 => *b"15 sites do not end where the tag starts    ",
         16 => *b"16 live bytes add up to over 2^64 - 1       ",
         17 => *b"17 no site at that place                    ",
+        18 => *b"18 buffer too short for the report          ",
         _ => *b"a number that the rules do not have         ",
     }
 }

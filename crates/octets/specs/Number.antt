@@ -1,5 +1,6 @@
 -- Believed: numbers as bytes, big-endian. Assumes nothing.
 pub mod Laws
+pub mod Spelled
 use mathlib.Core.List.{List, [], _∷_, _++_}
 use Prim.Native.Nat.{ℕ, zero, suc, _+_, _*_, _/_, _%_}
 use lib.ListN.{take, drop}

@@ -4,11 +4,11 @@ use mathlib.Core.List.{List, [], _∷_, _++_, append-assoc, append-nil}
 use Prim.Native.Nat.{ℕ, zero, suc, _+_, _-_, _≤_}
 use native.Mathlib.Nat.{zero-add, le-refl}
 use native.Mathlib.Omega.{arith}
-use lib.ListN.{length, take, drop, replicate, length-drop, length-replicate, drop-of-length-le, replicate-append-replicate}
-use lib.Seq.{take-all, take-length, take-at, take-nil, take-take, drop-drop, paste, take-paste, slice}
+use lib.ListN.{length, take, drop, replicate, length-append, length-drop, length-replicate, drop-of-length-le, replicate-append-replicate}
+use lib.Seq.{take-all, take-length, take-at, drop-at, take-nil, take-take, drop-drop, paste, take-paste, slice}
 use borrow.Rule.Slice.PartMut.{putMid}
 use Rattle.octets.specs.Copy.{over}
-use Rattle.octets.specs.Copy.Laws.{over-short}
+use Rattle.octets.specs.Copy.Laws.{over-length, over-short}
 use Rattle.octets.specs.Every.Laws.{drop-zeros}
 
 -- a part from a place to the end, as a loan has it
@@ -41,6 +41,26 @@ part-put l q y at n en room ey =
     in
     let none : drop n (drop at l) ≡ [] = drop-of-length-le (drop at l) {i = n} (rw length-drop (omega arith)) in
     rw (none, e, append-nil, take-length q) (sym (append-assoc (take at l) q (drop (at + length q) l)))
+
+-- a second part, written after a first one
+pub over-paste : (a b o p : List ℕ) (at : ℕ) → length a ≡ at → at + length b ≤ length o → p ≡ over a o → paste p at b (length b) ≡ over (a ++ b) o
+over-paste a b o p at ea room ep =
+    let both : length (a ++ b) ≤ length o = omega (arith, length-append a b) in
+    let is : p ≡ a ++ drop (length a) o = ep ∙ over-short a o (omega arith) in
+    let front : take at p ≡ a = ap (take at) is ∙ take-at a (drop (length a) o) at ea in
+    let back : drop (at + length b) p ≡ drop (length (a ++ b)) o =
+    sym (drop-drop (length b) at p)
+    ∙ ap (drop (length b)) (ap (drop at) is ∙ drop-at a (drop (length a) o) at ea)
+    ∙ drop-drop (length b) (length a) o
+    ∙ ap (λ (k : ℕ). drop k o) (sym (length-append a b))
+    in
+    (λ i. (front i ++ take-length b i) ++ back i) ∙ sym (over-short (a ++ b) o both)
+
+-- and the same where the part from there onward is lent to a copy
+pub over-more : (a b o p y : List ℕ) (at n : ℕ) → length a ≡ at → at + length b ≤ length o → p ≡ over a o → n ≡ length p - at
+    → y ≡ over b (take n (drop at p)) → putMid at n p y ≡ over (a ++ b) o
+over-more a b o p y at n ea room ep en ey =
+    part-put p b y at n en (omega (arith, ap length ep, over-length a o)) ey ∙ over-paste a b o p at ea room ep
 
 -- what stands up to the end of what was written
 pub take-pasted : (l : List ℕ) (at : ℕ) (q : List ℕ) → at + length q ≤ length l

@@ -1,10 +1,16 @@
--- Believed: a sum of numbers that knows whether it passed 2^64 - 1. Assumes nothing.
+-- Believed: the sum of some numbers, and one that knows whether it passed 2^64 - 1. Assumes nothing.
 pub mod Laws
 use mathlib.Core.Path.{_≡_}
 use mathlib.Core.Bool.{Bool, true, false, cond, _||_}
+use mathlib.Core.List.{List, [], _∷_}
 use Prim.Native.Nat.{ℕ, _+_, _-_, _<_}
 use lib.Dec.{ltb}
 use Rattle.octets.specs.declared.sums.Sum.{Sum}
+
+-- the sum of some numbers
+unfoldable pub sumOf : List ℕ → ℕ
+sumOf [] = 0
+sumOf (n ∷ l) = n + sumOf l
 
 -- the largest total, 2^64 - 1
 abbrev pub largestTotal : ℕ

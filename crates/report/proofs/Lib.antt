@@ -1,3 +1,6 @@
 pub mod Walking
 pub mod Heads
 pub mod Checked
+pub mod Planning
+pub mod Parts
+pub mod Whole

@@ -1,14 +1,20 @@
 -- Believed: what each public call answers, for all arguments: its checks in their order, and the work where none fails. An outcome
--- predicate is what the call's contract says; Calls/Unique.antt shows that no second outcome meets it. Assumes nothing.
+-- predicate is what the call's contract says; Calls/Unique.antt shows that no second outcome meets it. At the end stands what a caller has
+-- who read a report and writes it again. Assumes nothing.
 pub mod Laws
+pub mod Write
+pub mod RoundTrip
 pub mod Unique
 use mathlib.Core.Path.{_≡_}
-use mathlib.Core.List.{List, [], _∷_, _++_}
+use mathlib.Core.Bool.{_&&_}
+use mathlib.Core.List.{List, [], _∷_, _++_, map, flatten}
 use Prim.Native.Nat.{ℕ, zero, suc, _+_, _*_, _≤_}
 use lib.Dec.{leb, ltb, eqb}
 use lib.ListN.{length, take, drop, getD}
+use Rattle.octets.specs.Every.{every}
+use Rattle.octets.specs.Sums.{sumOf, largestTotal}
 use Rattle.algorithm.specs.Hashes.{sizeOf}
-use Rattle.algorithm.specs.Refusals.{done, unknownHash, keyTooLong, wrongSize, prkTooShort, noSuchSite, mostBytes}
+use Rattle.algorithm.specs.Refusals.{done, unknownHash, keyTooLong, wrongSize, prkTooShort, tooManySites, labelLengthOutOfRange, sitesMisplaced, sumTooLarge, noSuchSite, bufferTooShort, mostBytes}
 use Rattle.algorithm.specs.Checks.{Check, check, firstFailing, decided, answered}
 use Rattle.hmac.specs.Hmac.{tagOf}
 use Rattle.hmac.specs.Calls.{compareChecks}
@@ -16,8 +22,11 @@ use Rattle.report.specs.Layout.{Site, Fields, liveOf}
 use Rattle.report.specs.Reading.{namesHash, hashNamed, hashIn, tagSizeIn, tagStart, beforeTag, sitesIn, readChecks, fieldsOf, readOf}
 use Rattle.report.specs.Fingerprint.{fingerprintOf}
 use Rattle.report.specs.Keys.{keysOf}
+use Rattle.report.specs.Writing.{Columns, columns, sitesOf, fieldsFrom, reportOf, labelFits}
 use Rattle.report.specs.declared.reading.Reading.{Reading}
 use Rattle.report.specs.declared.sites.SiteAt.{SiteAt}
+use Rattle.report.specs.declared.writing.Heading.{Heading}
+use Rattle.report.specs.declared.writing.Written.{Written}
 
 -- read(report): the number, every field, how many sites and the sum of their live bytes
 abbrev pub readingOf : ℕ × Fields → Reading
@@ -168,3 +177,63 @@ keysAnswer n prk tenant machine out = answered (keysChecks n prk out) (keysOf (h
 
 abbrev pub KeysOutcome : ℕ → List ℕ → ℕ → ℕ → List ℕ → ℕ → List ℕ → Type 0
 KeysOutcome n prk tenant machine out r after = _≡_ {A = ℕ × List ℕ} (r, after) (keysAnswer n prk tenant machine out)
+
+-- write(heading, labels, lengths, live, blocks, tag_key, out): the number, the length of the report, and the buffer
+abbrev pub columnChecks : Columns → List Check
+columnChecks c =
+    check (eqb (length (c .live)) (length (c .lengths)) && eqb (length (c .blocks)) (length (c .lengths))) wrongSize
+    ∷ check (leb (length (c .lengths)) 64) tooManySites
+    ∷ check (every labelFits (c .lengths)) labelLengthOutOfRange
+    ∷ check (eqb (length (c .labels)) (sumOf (c .lengths))) sitesMisplaced
+    ∷ check (leb (sumOf (c .live)) largestTotal) sumTooLarge
+    ∷ []
+
+abbrev pub writeChecks : Heading → Columns → List ℕ → List ℕ → List Check
+writeChecks h c key out =
+    check (namesHash (h .hash)) unknownHash
+    ∷ columnChecks c
+    ++ (keyChecks key ++ (check (leb (length (reportOf (fieldsFrom h (sitesOf c)) key)) (length out)) bufferTooShort ∷ []))
+
+abbrev pub refusedWrite : ℕ → Written
+refusedWrite n = record { number = n; length = 0 }
+
+-- a report over the beginning of a buffer, whose other bytes stay
+abbrev pub wroteReport : List ℕ → List ℕ → Written × List ℕ
+wroteReport report out = (record { number = done; length = length report }, report ++ drop (length report) out)
+
+pub writeAnswer : Heading → Columns → List ℕ → List ℕ → Written × List ℕ
+writeAnswer h c key out =
+    let cs : List Check = writeChecks h c key out in
+    decided cs (wroteReport (reportOf (fieldsFrom h (sitesOf c)) key) out) (refusedWrite (firstFailing cs), out)
+
+abbrev pub WriteOutcome : Heading → Columns → List ℕ → List ℕ → Written → List ℕ → Type 0
+WriteOutcome h c key out r after = _≡_ {A = Written × List ℕ} (r, after) (writeAnswer h c key out)
+
+-- the report that a write left: so many bytes of the buffer
+abbrev pub reportIn : Written × List ℕ → List ℕ
+reportIn r = take (r .0 .length) (r .1)
+
+-- what a caller has who asked the calls on a report, to write it again: the heading from read, and the columns from site and label at
+-- every place
+abbrev pub headingRead : Reading → Heading
+headingRead r = record {
+  hash = r .hash;
+  tenant = r .tenant;
+  machine = r .machine;
+  report = r .report;
+  sent = r .sent;
+  attempt = r .attempt;
+  memory = r .memory;
+}
+
+unfoldable pub placesFrom : ℕ → ℕ → List ℕ
+placesFrom place zero = []
+placesFrom place (suc n) = place ∷ placesFrom (suc place) n
+
+abbrev pub columnsAt : List ℕ → List ℕ → Columns
+columnsAt s places =
+    columns (flatten (map (λ i. labelAnswer s i .1) places)) (map (λ i. siteAnswer s i .length) places) (map (λ i. siteAnswer s i .live) places)
+    (map (λ i. siteAnswer s i .blocks) places)
+
+abbrev pub columnsRead : List ℕ → Columns
+columnsRead s = columnsAt s (placesFrom 0 (readingOf (readOf s) .sites))

@@ -2,5 +2,6 @@ pub mod Layout
 pub mod Reading
 pub mod Fingerprint
 pub mod Keys
+pub mod Writing
 pub mod Calls
 pub mod Inside

@@ -111,7 +111,7 @@ pub(crate) fn check_report(report: &[u8]) -> Checked
     }
 }
 
-// The check of a report's key, which the tag and the fingerprint share.
+// The check of a report's key, which writing, the tag and the fingerprint share.
 pub(crate) fn check_key(key: &[u8]) -> u32
     ensures { λ r. ⌜ r ≡ firstFailing (keyChecks (now (key .entry))) ⌝ }
 {

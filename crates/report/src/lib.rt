@@ -1,14 +1,18 @@
-// Leak reports: reading them, their sites, their tag and fingerprint, and the two keys of a machine.
+// Leak reports: reading and writing them, their sites, their tag and fingerprint, and the two keys of a machine.
 mod checks;
+mod columns;
 mod derivation;
+mod filling;
 mod fingerprints;
 mod format;
 mod lists;
 mod numbers;
+mod plans;
 mod reading;
 mod sites;
 mod tags;
 mod walk;
+mod writing;
 
 pub use derivation::keys;
 pub use fingerprints::fingerprint;
@@ -22,3 +26,6 @@ pub use sites::SiteAt;
 pub use sites::label;
 pub use sites::site;
 pub use tags::check;
+pub use writing::Heading;
+pub use writing::Written;
+pub use writing::write;

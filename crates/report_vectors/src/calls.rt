@@ -1,5 +1,8 @@
 // The calls on a report, each with a line on what it answers.
+ghost use Prim.Native.Nat.{_≤_};
+ghost use lib.ListN.{length};
 use crate::say;
+use report::Heading;
 
 pub(crate) fn read(report: &[u8]) {
     say::text(b"read: ");
@@ -34,11 +37,31 @@ pub(crate) fn check(report: &[u8], key: &[u8]) {
 pub(crate) fn fingerprint(report: &[u8], key: &[u8], out: &mut [u8]) {
     let number = report::fingerprint(report, key, out);
     say::text(b"fingerprint: ");
-    say::answer(number, out);
+    say::answer(number as u64, out);
 }
 
 pub(crate) fn keys(hash_number: u32, prk: &[u8], tenant: u32, machine: u64, out: &mut [u8]) {
     let answered = report::keys(hash_number, prk, tenant, machine, out);
     say::text(b"keys: ");
-    say::answer(answered, out);
+    say::answer(answered as u64, out);
+}
+
+// Writing, and how many bytes of the output are a report: none where it is refused. A length that the output does not have would
+// show in the line, and counts as none too.
+pub(crate) fn write(
+    heading: Heading,
+    labels: &[u8],
+    lengths: &[u32],
+    live: &[u64],
+    blocks: &[u32],
+    key: &[u8],
+    out: &mut [u8],
+) -> usize
+    ensures { λ r. ⌜ r ≤ length (now (out .exit)) ⌝ }
+{
+    let written = report::write(heading, labels, lengths, live, blocks, key, out);
+    say::text(b"write: ");
+    say::written(written, out);
+    let n = written.length;
+    if n <= out.len() { n } else { 0 }
 }

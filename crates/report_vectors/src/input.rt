@@ -3,6 +3,7 @@
 ghost use Prim.Native.Nat.{_≤_};
 ghost use lib.ListN.{length};
 use libc::STDIN_FILENO;
+use report::Heading;
 
 // Every byte of a part.
 fn fill(out: &mut [u8], whole: &mut bool) {
@@ -40,7 +41,7 @@ pub(crate) fn eight(whole: &mut bool) -> u64 {
     ((high as u64) << 32) | (low as u64)
 }
 
-// A size of at most so many bytes.
+// A size that is at most so much.
 pub(crate) fn size(most: usize, whole: &mut bool) -> usize
     ensures { λ r. ⌜ r ≤ most ⌝ }
 {
@@ -59,4 +60,39 @@ pub(crate) fn string(space: &mut [u8], whole: &mut bool) -> usize
     let n = size(space.len(), whole);
     fill(&mut space[0..n], whole);
     n
+}
+
+// A list of numbers of four bytes after how many there are, into the start of a space, and how many.
+pub(crate) fn fours(space: &mut [u32], whole: &mut bool) -> usize
+    ensures { λ r. ⌜ r ≤ length (now (space .exit)) ⌝ }
+{
+    let n = size(space.len(), whole);
+    for i in 0..n {
+        space[i] = four(whole);
+    }
+    n
+}
+
+// The same with numbers of eight bytes.
+pub(crate) fn eights(space: &mut [u64], whole: &mut bool) -> usize
+    ensures { λ r. ⌜ r ≤ length (now (space .exit)) ⌝ }
+{
+    let n = size(space.len(), whole);
+    for i in 0..n {
+        space[i] = eight(whole);
+    }
+    n
+}
+
+// The heading of a report that is to be written.
+pub(crate) fn heading(whole: &mut bool) -> Heading {
+    Heading {
+        hash: four(whole),
+        tenant: four(whole),
+        machine: eight(whole),
+        report: eight(whole),
+        sent: eight(whole),
+        attempt: one(whole),
+        memory: eight(whole),
+    }
 }

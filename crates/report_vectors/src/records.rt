@@ -1,14 +1,19 @@
 // The records of the input, each read and run. A function here answers whether the record came whole.
+use crate::again;
 use crate::calls;
 use crate::input;
 use crate::say;
+use report::Heading;
 
-// The most bytes of a report, of a key and of an output.
+// The most bytes of a report or of labels, of a key and of an output.
 const REPORT: usize = 4096;
 
 const KEY: usize = 512;
 
 const OUTPUT: usize = 256;
+
+// The most numbers of a list: some more than a report may have sites.
+const NUMBERS: usize = 80;
 
 // The sites of a report, at the places that follow it.
 fn sites(report: &[u8]) -> bool {
@@ -74,6 +79,58 @@ fn keys() -> bool {
     whole
 }
 
+// Writes a report from its heading and its sites, under the tag key and over an output of the size that follow them.
+fn write_from(
+    heading: Heading,
+    labels: &[u8],
+    lengths: &[u32],
+    live: &[u64],
+    blocks: &[u32],
+) -> bool {
+    let mut whole = true;
+    let mut key_space = [0u8; KEY];
+    let mut out = [0xa5u8; REPORT];
+    let mut second = [0xa5u8; REPORT];
+    let k = input::string(&mut key_space, &mut whole);
+    let size = input::size(REPORT, &mut whole);
+    if whole {
+        again::write_twice(
+            heading,
+            labels,
+            lengths,
+            live,
+            blocks,
+            &key_space[0..k],
+            &mut out[0..size],
+            &mut second[0..size],
+        );
+    }
+    whole
+}
+
+fn write() -> bool {
+    let mut whole = true;
+    let mut labels = [0u8; REPORT];
+    let mut lengths = [0u32; NUMBERS];
+    let mut live = [0u64; NUMBERS];
+    let mut blocks = [0u32; NUMBERS];
+    let heading = input::heading(&mut whole);
+    let n = input::string(&mut labels, &mut whole);
+    let lengths_given = input::fours(&mut lengths, &mut whole);
+    let live_given = input::eights(&mut live, &mut whole);
+    let blocks_given = input::fours(&mut blocks, &mut whole);
+    if !whole {
+        return false;
+    }
+    write_from(
+        heading,
+        &labels[0..n],
+        &lengths[0..lengths_given],
+        &live[0..live_given],
+        &blocks[0..blocks_given],
+    )
+}
+
 // The next record, and whether there may be another.
 pub(crate) fn next() -> bool {
     let mut begun = true;
@@ -86,6 +143,7 @@ pub(crate) fn next() -> bool {
         2 => check(),
         3 => fingerprint(),
         4 => keys(),
+        5 => write(),
         _ => false,
     };
     if !whole {

@@ -2,6 +2,7 @@
 use libc::STDOUT_FILENO;
 use report::Reading;
 use report::SiteAt;
+use report::Written;
 
 pub(crate) fn text(words: &[u8]) {
     io::write_all(STDOUT_FILENO, words);
@@ -35,9 +36,9 @@ pub(crate) fn bytes(bytes: &[u8]) {
     }
 }
 
-// A call's number and its output.
-pub(crate) fn answer(answered: u32, out: &[u8]) {
-    number(answered as u64);
+// A number that a call answers, and its output.
+pub(crate) fn answer(answered: u64, out: &[u8]) {
+    number(answered);
     text(b", ");
     bytes(out);
     text(b"\n");
@@ -69,4 +70,11 @@ pub(crate) fn site(at: SiteAt) {
     next(at.length as u64);
     next(at.live);
     next(at.blocks as u64);
+}
+
+// What writing a report answers, and its output.
+pub(crate) fn written(answered: Written, out: &[u8]) {
+    number(answered.number as u64);
+    text(b", ");
+    answer(answered.length as u64, out);
 }

@@ -2,7 +2,9 @@
 ghost use Rattle.hash.specs.Calls.{DigestOutcome};
 ghost use Rattle.hmac.specs.Calls.{TagMessageOutcome, VerifyMessageOutcome};
 ghost use Rattle.hkdf.specs.Calls.{ExtractOutcome, ExpandOutcome};
-ghost use Rattle.report.specs.Calls.{ReadIntoOutcome, SiteIntoOutcome, CheckOutcome, FingerprintOutcome, KeysOutcome};
+ghost use Rattle.report.specs.Calls.{ReadIntoOutcome, SiteIntoOutcome, CheckOutcome, FingerprintOutcome, KeysOutcome, WriteOutcome};
+ghost use Rattle.report.specs.Writing.{columns};
+use report::Heading;
 
 #[no_mangle]
 pub extern "C" fn tirmuzzle_tag(
@@ -53,6 +55,47 @@ pub extern "C" fn tirmuzzle_report_fingerprint(
     ensures { λ r. ⌜ FingerprintOutcome (now (report .entry)) (now («fingerprint_key» .entry)) (now (out .entry)) r (now (out .exit)) ⌝ }
 {
     report::fingerprint(report, fingerprint_key, out)
+}
+
+#[no_mangle]
+pub extern "C" fn tirmuzzle_report_write(
+    hash: u32,
+    tenant: u32,
+    machine: u64,
+    report_number: u64,
+    send_time: u64,
+    attempt: u8,
+    memory: u64,
+    labels: &[u8],
+    label_lengths: &[u32],
+    live_bytes: &[u64],
+    live_blocks: &[u32],
+    tag_key: &[u8],
+    out: &mut [u8],
+    length: &mut u64,
+) -> u32
+    ensures { λ r. ⌜ WriteOutcome (record { hash = hash; tenant = tenant; machine = machine; report = «report_number»; sent = «send_time»; attempt = attempt; memory = memory }) (columns (now (labels .entry)) (now («label_lengths» .entry)) (now («live_bytes» .entry)) (now («live_blocks» .entry))) (now («tag_key» .entry)) (now (out .entry)) (record { number = r; length = now (length .exit) }) (now (out .exit)) ⌝ }
+{
+    let heading = Heading {
+        hash,
+        tenant,
+        machine,
+        report: report_number,
+        sent: send_time,
+        attempt,
+        memory,
+    };
+    let written = report::write(
+        heading,
+        labels,
+        label_lengths,
+        live_bytes,
+        live_blocks,
+        tag_key,
+        out,
+    );
+    *length = written.length as u64;
+    written.number
 }
 
 #[no_mangle]

@@ -1,13 +1,17 @@
--- Proved: laws of the hashes that we make, for the layers above: their sizes are those of the algorithm crate, a digest has its size,
--- the padded blocks are counted by the length and shared by no two messages. Assumes nothing.
+-- Proved: laws of the hashes that we make, for the layers above: their sizes are those of the algorithm crate, a digest has its size
+-- and is bytes, the padded blocks are counted by the length and shared by no two messages. Assumes nothing.
 use mathlib.Core.Path.{_≡_, refl, ap, subst, _∙_}
+use mathlib.Core.Bool.{true}
 use mathlib.Core.List.{List, [], _∷_, foldl}
 use Prim.Native.Nat.{ℕ, _+_, _*_, _/_, _≤_, _<_}
 use native.Mathlib.Omega.{arith}
-use lib.Dec.{lit≤}
+use lib.Dec.{ltb, lit≤}
 use lib.ListN.{length}
 use lib.Seq.{length-take-le}
-use Rattle.octets.specs.Every.{every}
+use Rattle.octets.specs.Every.{every, allBytes}
+use Rattle.octets.specs.Every.Laws.{every-append, every-take}
+use Rattle.octets.specs.Number.{bytes}
+use Rattle.octets.specs.Number.Spelled.{bytes-all}
 use Rattle.algorithm.specs.declared.hashes.Hash.{Hash}
 use Rattle.algorithm.specs.declared.hashes.Hash.the-variants.{Sha256, Sha512}
 use Rattle.algorithm.specs.Hashes.{blockOf, sizeOf}
@@ -44,7 +48,18 @@ keep-length h ws e =
     let l : length (spell w ws) ≡ 8 * w = spell-length w ws ∙ ap (λ (n : ℕ). n * w) e in
     length-take-le (describe h .kept) (spell w ws) (omega (arith, described h .kept-most)) ∙ described h .kept-is
 
+-- words that are spelled are bytes
+spell-bytes : (k : ℕ) (ws : List ℕ) → allBytes (spell k ws) ≡ true
+unfolding spell every
+spell-bytes k [] = refl
+spell-bytes k (w ∷ ws) = every-append (λ x. ltb x 256) (bytes k w) (spell k ws) ∙ rw (bytes-all k w, spell-bytes k ws)
+
 module _ (h : Hash) (m : List ℕ) where
+  -- a digest is bytes
+  pub digest-bytes : allBytes (digestOf h m) ≡ true
+  unfolding digestOf digest digestFrom keep
+  digest-bytes = every-take (λ x. ltb x 256) (describe h .kept) _ (spell-bytes (wordSize (describe h .core)) _)
+
   -- every digest has its size
   pub digest-length : length (digestOf h m) ≡ sizeOf h
   unfolding digestOf digest digestFrom

@@ -239,10 +239,15 @@ module _ (n : ℕ) (key m : List ℕ) (t : ℕ) where
       let fits : Pass (lengthChecks (hashOf n) t tag) = and asked (and (eq-eqb (length tag) t size) all) in
       verify-message-tag tag .1 (pass-append (takenChecks n key m) (lengthChecks (hashOf n) t tag) .1 (taken, fits), refl)
 
--- what it answers once every other check passes
+-- what the calls on a whole message answer once every other check passes
 module _ (n : ℕ) (key m : List ℕ) (t : ℕ) (presented : List ℕ) (h : names n ≡ true) (l : length key ≤ mostBytes)
     (g : length m ≤ mostBytes - blockOf (hashOf n)) (a : allowed (hashOf n) t ≡ true) (e : length presented ≡ t) where
   pub verify-message-compared : verifyMessageAnswer n key m t presented ≡ cond (equal presented (tagOf (hashOf n) key t m)) done tagDiffers
   unfolding verifyMessageAnswer
   verify-message-compared =
+      rw (h, le-leb (length key) mostBytes l, le-leb (length m) (mostBytes - blockOf (hashOf n)) g, a, eq-eqb (length presented) t e)
+
+  pub tag-message-accepted : tagMessageAnswer n key m t presented ≡ written done (tagOf (hashOf n) key t m)
+  unfolding tagMessageAnswer
+  tag-message-accepted =
       rw (h, le-leb (length key) mostBytes l, le-leb (length m) (mostBytes - blockOf (hashOf n)) g, a, eq-eqb (length presented) t e)

@@ -1,15 +1,20 @@
--- Proved: laws of HMAC and of its tags: their lengths and beginnings, and what keys and messages may share. Assumes nothing.
+-- Proved: laws of HMAC and of its tags: their lengths and beginnings, that they are bytes, and what keys and messages may share.
+-- Assumes nothing.
 use mathlib.Core.Path.{_≡_, sym, ap, ap₂, _∙_}
 use mathlib.Core.Logic.{_↔_}
+use mathlib.Core.Bool.{true}
 use mathlib.Core.List.{List, _++_}
 use Prim.Native.Nat.{ℕ, _≤_}
 use native.Mathlib.Omega.{arith}
+use lib.Dec.{ltb}
 use lib.ListN.{length, take, drop}
 use lib.Seq.{length-take-le, take-all, take-take, take-at, drop-at}
+use Rattle.octets.specs.Every.{allBytes}
+use Rattle.octets.specs.Every.Laws.{every-take}
 use Rattle.algorithm.specs.declared.hashes.Hash.{Hash}
 use Rattle.algorithm.specs.Hashes.{blockOf, sizeOf}
 use Rattle.hash.specs.Digest.{blocksOf, fromBlocks, digestOf}
-use Rattle.hash.specs.Digest.Laws.{digest-length, digest-from-blocks, padding-injective}
+use Rattle.hash.specs.Digest.Laws.{digest-length, digest-bytes, digest-from-blocks, padding-injective}
 use Rattle.hmac.specs.Form.{formOf, masked, innerPad, outerPad}
 use Rattle.hmac.specs.Form.Laws.{masked-injective, inner-length}
 use Rattle.hmac.specs.Hmac.{hmacOf, innerBlocksOf, tagOf}
@@ -30,6 +35,11 @@ module _ (h : Hash) where
 
     pub tag-full : (m : List ℕ) → tagOf h k (sizeOf h) m ≡ hmacOf h k m
     tag-full m = take-all (sizeOf h) (hmacOf h k m) (omega (arith, hmac-length m))
+
+    -- a tag is bytes
+    pub tag-bytes : (t : ℕ) (m : List ℕ) → allBytes (tagOf h k t m) ≡ true
+    unfolding hmacOf
+    tag-bytes t m = every-take (λ x. ltb x 256) t (hmacOf h k m) (digest-bytes h (outerPad h k ++ digestOf h (innerPad h k ++ m)))
 
     -- the full tag comes from the blocks that the inner hash is fed, and from the outer pad
     pub hmac-from-blocks : (m : List ℕ) → hmacOf h k m ≡ digestOf h (outerPad h k ++ fromBlocks h (innerBlocksOf h k m))

@@ -47,6 +47,14 @@ module _ (p : ℕ → Bool) where
   every-at (x ∷ l) h zero k = and-parts (p x) (every p l) h .0
   every-at (x ∷ l) h (suc i) k = every-at l (and-parts (p x) (every p l) h .1) i (le-of-suc-le-suc k)
 
+  -- and not all do where one does not
+  pub every-fails : (l : List ℕ) (i : ℕ) → i < length l → p (getD l i 0) ≡ false → every p l ≡ false
+  every-fails l i h e = refuted (every p l) (λ t. true≢false (sym (every-at l t i h) ∙ e))
+    where
+      refuted : (b : Bool) → (b ≡ true → ⊥) → b ≡ false
+      refuted true z = absurd (z refl)
+      refuted false z = refl
+
 -- zeros are all zero, and a list that is all zero is zeros of its length
 pub zeros-all : (n : ℕ) → allZero (replicate n 0) ≡ true
 unfolding every

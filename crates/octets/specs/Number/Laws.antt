@@ -52,7 +52,7 @@ bytes-zero (suc k) =
     ∙ ap (λ (n : ℕ). replicate n 0) (add-one k)
 
 -- the number of two lists, one after the other
-onto-append : (n : ℕ) (xs ys : List ℕ) → onto n (xs ++ ys) ≡ onto (onto n xs) ys
+pub onto-append : (n : ℕ) (xs ys : List ℕ) → onto n (xs ++ ys) ≡ onto (onto n xs) ys
 unfolding onto
 onto-append n [] ys = refl
 onto-append n (x ∷ xs) ys = onto-append (n * 256 + x) xs ys

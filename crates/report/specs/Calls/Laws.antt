@@ -235,7 +235,7 @@ module _ (s : List ℕ) (place : ℕ) where
     pub site-none : length (sitesIn s .1) ≤ place → siteAnswer s place ≡ refusedSite noSuchSite
     site-none l = stopped-site noSuchSite (passes-then s p (there ∷ []) ∙ rw (le-ltb place (length (sitesIn s .1)) l)) (λ z. omega arith)
 
-    there-done : place < length (sitesIn s .1) → firstFailing (placeChecks s place) ≡ done
+    pub there-done : place < length (sitesIn s .1) → firstFailing (placeChecks s place) ≡ done
     there-done l = passes-then s p (there ∷ []) ∙ rw (lt-ltb place (length (sitesIn s .1)) l)
 
     pub site-there : place < length (sitesIn s .1) → siteAnswer s place ≡ foundSite (sitesIn s .1) place
@@ -253,7 +253,7 @@ module _ (s : List ℕ) (place : ℕ) where
   unfolding labelAnswer
   label-stops n e z = ap (λ (r : ℕ × List ℕ). r .1) (answered-refused (placeChecks s place) (siteOf (sitesIn s .1) place .label) [] n e z)
 
-  label-there : firstFailing (placeChecks s place) ≡ done → labelAnswer s place .1 ≡ siteOf (sitesIn s .1) place .label
+  pub label-there : firstFailing (placeChecks s place) ≡ done → labelAnswer s place .1 ≡ siteOf (sitesIn s .1) place .label
   unfolding labelAnswer
   label-there e = ap (λ (r : ℕ × List ℕ). r .1) (answered-done (placeChecks s place) (siteOf (sitesIn s .1) place .label) [] e)
 

@@ -3,9 +3,12 @@ use mathlib.Core.Path.{_≡_}
 use mathlib.Core.List.{List}
 use Prim.Native.Nat.{ℕ}
 use Rattle.algorithm.specs.Checks.Laws.{one-outcome}
-use Rattle.report.specs.Calls.{ReadOutcome, ReadIntoOutcome, SiteOutcome, SiteIntoOutcome, LabelOutcome, CheckOutcome, FingerprintOutcome, KeysOutcome}
+use Rattle.report.specs.Calls.{ReadOutcome, ReadIntoOutcome, SiteOutcome, SiteIntoOutcome, LabelOutcome, CheckOutcome, FingerprintOutcome, KeysOutcome, WriteOutcome}
+use Rattle.report.specs.Writing.{Columns}
 use Rattle.report.specs.declared.reading.Reading.{Reading}
 use Rattle.report.specs.declared.sites.SiteAt.{SiteAt}
+use Rattle.report.specs.declared.writing.Heading.{Heading}
+use Rattle.report.specs.declared.writing.Written.{Written}
 
 pub read-unique : (s : List ℕ) (r r′ : Reading) → ReadOutcome s r → ReadOutcome s r′ → r ≡ r′
 read-unique s r r′ = one-outcome
@@ -35,3 +38,7 @@ fingerprint-unique s key out r r′ o o′ = one-outcome
 pub keys-unique : (n : ℕ) (prk : List ℕ) (tenant machine : ℕ) (out : List ℕ) (r r′ : ℕ) (o o′ : List ℕ)
     → KeysOutcome n prk tenant machine out r o → KeysOutcome n prk tenant machine out r′ o′ → _≡_ {A = ℕ × List ℕ} (r, o) (r′, o′)
 keys-unique n prk tenant machine out r r′ o o′ = one-outcome
+
+pub write-unique : (h : Heading) (c : Columns) (key out : List ℕ) (r r′ : Written) (o o′ : List ℕ)
+    → WriteOutcome h c key out r o → WriteOutcome h c key out r′ o′ → _≡_ {A = Written × List ℕ} (r, o) (r′, o′)
+write-unique h c key out r r′ o o′ = one-outcome

@@ -1,17 +1,17 @@
 -- Proved: laws of reading a report: what a report that passes has, what its sites are, and that its fields spell the bytes before its tag.
 -- Assumes nothing.
-use mathlib.Core.Path.{_≡_, refl, sym, ap, _∙_}
+use mathlib.Core.Path.{_≡_, refl, ap, _∙_}
 use mathlib.Core.Bool.{Bool, true, false, cond, _&&_}
 use mathlib.Core.List.{List, [], _∷_, _++_, append-assoc}
 use Prim.Native.Nat.{ℕ, zero, suc, _+_, _-_, _*_, _≤_}
-use native.Mathlib.Nat.{zero-add}
 use native.Mathlib.Omega.{arith}
 use lib.Dec.{leb, ltb, eqb, lit≤}
 use lib.ListN.{length, drop, take-append-drop, length-drop}
 use lib.Seq.{length-take-le, slice}
-use borrow.Author.Tests.{leb-true, le-leb, eqb-true, eqb-false, eq-eqb}
-use Rattle.octets.specs.Number.{number, onto, numberAt, bytes}
-use Rattle.octets.specs.Number.Laws.{bytes-number, number-back, number-between}
+use borrow.Author.Tests.{leb-true, ltb-true, le-leb, eqb-true, eqb-false, eq-eqb}
+use Rattle.octets.specs.Number.{numberAt, bytes}
+use Rattle.octets.specs.Number.Laws.{number-back, number-between}
+use Rattle.octets.specs.Number.Spelled.{byte-bytes}
 use Rattle.octets.specs.Every.{every, allBytes}
 use Rattle.octets.specs.Every.Laws.{and-parts, every-take, every-drop}
 use Rattle.octets.specs.Sums.{largestTotal}
@@ -26,7 +26,7 @@ use Rattle.report.specs.Layout.{Site, siteBytes, sitesBytes, bytesOf, ta
 use Rattle.report.specs.Reading.{hashNamed, tagSizeIn, tagStart, beforeTag, firstSite, withSite, readSites, sitesIn, sitesChecks, readChecks, fieldsOf, readOf, WellFormed}
 use Rattle.report.specs.Inside.{First, afterSent, Passed}
 
--- a report's tag is half a digest of its hash, 32 bytes at most
+-- a report's tag is half a digest of its hash, 16 bytes at least and 32 at most
 pub tag-half : (n : ℕ) → 2 * tagSize n ≡ sizeOf (hashNamed n)
 tag-half n = half (eqb n 2)
   where
@@ -34,17 +34,19 @@ tag-half n = half (eqb n 2)
     half true = refl
     half false = refl
 
+pub tag-least : (n : ℕ) → 16 ≤ tagSize n
+tag-least n = least (eqb n 2)
+  where
+    least : (b : Bool) → 16 ≤ cond b 32 16
+    least true = lit≤ tt
+    least false = lit≤ tt
+
 pub tag-most : (n : ℕ) → tagSize n ≤ 32
 tag-most n = most (eqb n 2)
   where
     most : (b : Bool) → cond b 32 16 ≤ 32
     most true = lit≤ tt
     most false = lit≤ tt
-
--- the byte of a number that is one
-byte-is : (n : ℕ) → ltb n 256 ≡ true → bytes 1 n ≡ n ∷ []
-unfolding number onto every
-byte-is n h = ap (bytes 1) (sym (zero-add n)) ∙ bytes-number 1 (n ∷ []) refl (ap (λ (b : Bool). b && true) h)
 
 -- both tests of a site pass where it is not refused, and so it is the first
 both-pass : (b c : Bool) (w : ℕ × List Site) → cond b (cond c w (sitesMisplaced, [])) (labelLengthOutOfRange, []) .0 ≡ done
@@ -93,7 +95,7 @@ unfolding siteBytes
 site-back size l k b h =
     let blocks = number-back l (size + 8) 4 (size + 12) b (omega arith) h in
     let live = number-back l size 8 (size + 8) b refl (omega arith) in
-    simp append-assoc (rw (blocks, live, take-append-drop size l, length-take-le size l (omega arith), byte-is size k))
+    simp append-assoc (rw (blocks, live, take-append-drop size l, length-take-le size l (omega arith), byte-bytes size (ltb-true size 256 k)))
 
 -- n sites spell the bytes that they were read from
 pub sites-back : (n : ℕ) (l : List ℕ) → allBytes l ≡ true → readSites n l .0 ≡ done → sitesBytes (readSites n l .1) ≡ l
