@@ -36,7 +36,7 @@ use Rattle.report.specs.Writing.Inside.{numberBytes, Next, siteNext, Nex
 use Rattle.report.specs.Calls.Laws.{report-hash, tag-allowed}
 use Rattle.report.proofs.Planning.{labels-most}
 
--- a site from its three parts, and its length
+-- a site from its three parts, and the length of the last one
 pub site-spelled : (label : List ℕ) (live blocks : ℕ) → length label ≤ 48 → {q : List ℕ} → q ≡ numberBytes live blocks
     → ((length label ∷ []) ++ label) ++ q ≡ siteBytes (siteFrom label live blocks)
 unfolding siteBytes numberBytes
