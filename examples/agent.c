@@ -1,5 +1,6 @@
 /* What an agent does with Tirmuzzle: it makes the keys of its machine, writes a leak report of two sites with its tag, and sends it
- * again later under another tag and the same fingerprint. The collector's calls stand beside, to show what it makes of it.
+ * again later with a raised attempt, under another tag and the same fingerprint. The collector's calls stand beside, to show what it
+ * makes of it.
  *
  * Link it with libtirmuzzle.a. */
 #include "tirmuzzle.h"
@@ -8,7 +9,7 @@
 #include <stdlib.h>
 #include <string.h>
 
-enum { TENANT = 7, MACHINE = 258, REPORT_NUMBER = 9, ATTEMPT = 0, MEMORY = 1 << 30, SITES = 2 };
+enum { TENANT = 7, MACHINE = 258, REPORT_NUMBER = 9, MEMORY = 1 << 30, SITES = 2 };
 enum { KEY = TIRMUZZLE_SHA256_REPORT_KEY, TAG = TIRMUZZLE_SHA256_REPORT_TAG };
 
 struct report {
@@ -25,13 +26,14 @@ static void require(uint32_t answer, const char *what)
     }
 }
 
-/* The report as it is sent at a time, with its tag: the labels of both sites end to end, and three numbers for each site. */
-static void write_report(struct report *report, uint64_t send_time, const uint8_t *tag_key)
+/* The report as it is sent at this time, with this attempt and its tag: the labels of both sites end to end, and three numbers for
+ * each site. */
+static void write_report(struct report *report, uint64_t send_time, uint8_t attempt, const uint8_t *tag_key)
 {
     static const uint8_t labels[] = "cache.c:42" "queue.c:7";
     static const uint32_t label_lengths[SITES] = {10, 9}, live_blocks[SITES] = {16, 3};
     static const uint64_t live_bytes[SITES] = {1048576, 3000};
-    require(tirmuzzle_report_write(TIRMUZZLE_SHA256, TENANT, MACHINE, REPORT_NUMBER, send_time, ATTEMPT, MEMORY, labels,
+    require(tirmuzzle_report_write(TIRMUZZLE_SHA256, TENANT, MACHINE, REPORT_NUMBER, send_time, attempt, MEMORY, labels,
                                    sizeof labels - 1, label_lengths, SITES, live_bytes, SITES, live_blocks, SITES, tag_key, KEY,
                                    report->bytes, sizeof report->bytes, &report->length),
             "the report");
@@ -97,9 +99,9 @@ int main(void)
 
     struct report report;
     uint8_t first[TIRMUZZLE_FINGERPRINT], again[TIRMUZZLE_FINGERPRINT];
-    write_report(&report, 1000, tag_key);
+    write_report(&report, 1000, 0, tag_key);
     take(&report, tag_key, fingerprint_key, first);
-    write_report(&report, 61000, tag_key);
+    write_report(&report, 61000, 1, tag_key);
     take(&report, tag_key, fingerprint_key, again);
     printf("sent again: %s\n", memcmp(first, again, sizeof first) == 0 ? "the same fingerprint" : "another fingerprint");
     return 0;

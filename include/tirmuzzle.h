@@ -133,7 +133,7 @@ uint32_t tirmuzzle_expand(uint32_t hash, const uint8_t *prk, size_t prk_length, 
  *
  * The tag plays no part in it. What a call refuses beyond this, it refuses only then. */
 
-/* The fingerprint of a report, which its send time and its tag do not change, under the fingerprint key as it is lent.
+/* The fingerprint of a report, which its send time, its attempt and its tag do not change, under the fingerprint key as it is lent.
  * out has TIRMUZZLE_FINGERPRINT bytes. Refuses as reading does, then with 3, 6. */
 uint32_t tirmuzzle_report_fingerprint(const uint8_t *report, size_t report_length, const uint8_t *fingerprint_key,
                                       size_t fingerprint_key_length, uint8_t *out, size_t out_length);
@@ -143,7 +143,12 @@ uint32_t tirmuzzle_report_fingerprint(const uint8_t *report, size_t report_lengt
  * many bytes its label has, its live bytes, its live blocks. The report stands at the beginning of out, and what out has after it
  * stays as it was; TIRMUZZLE_LARGEST_REPORT bytes are enough for any report. length is always written: how many bytes the report
  * has, or 0 where the call is refused. C cuts a wider number to the width of its parameter before the call can see it: an agent that
- * counts its attempts in an int has to stop at 255. Refuses, in this order, with
+ * counts its attempts in an int has to stop at 255.
+ *
+ * To send a report again, write it with the same fields and sites, and change its send time and its attempt alone: it then keeps its
+ * fingerprint, by which the collector knows it. A new report needs a new report number, even where all else is the same.
+ *
+ * Refuses, in this order, with
  *
  *      2  hash is not 1 or 2
  *      6  the three buffers of numbers are of unequal length

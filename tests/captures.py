@@ -39,8 +39,8 @@ def differing(report):
 
 
 def demonstration():
-    """Good reports under both hashes, a retry that differs in the send time alone, a tag that differs, a label that is too long, and
-    more good ones after these."""
+    """Good reports under both hashes, a retry with a raised attempt, a tag that differs, a label that is too long, and more good ones
+    after these."""
     heap = [site(b"heap:parse_request", 917504, 112), site(b"heap:cache_insert", 4194304, 1024)]
     first = dict(tenant=1204, machine=9007199254740993, number=4711, memory=17179869184)
     other = dict(hash=2, tenant=88, machine=3405691582, number=12, memory=68719476736)
@@ -48,13 +48,20 @@ def demonstration():
         [
             signed(heap, send_time=1762000000000, **first),
             signed([site(b"arena:session", 65536, 3)], send_time=1762000003125, **other),
-            signed(heap, send_time=1762000030000, **first),
+            signed(heap, send_time=1762000030000, attempt=1, **first),
             differing(signed(heap, send_time=1762000060000, **{**first, "number": 4712})),
             signed([site(bytes(49))], send_time=1762000061000, **first),
             signed((), send_time=1762000090000, **{**first, "number": 4713}),
             signed([site(b"arena:session", 131072, 6)], send_time=1762000063125, attempt=1, **{**other, "number": 13}),
         ]
     )
+
+
+def retries(hash):
+    """A report sent once, then again and again: later with a raised attempt, with the attempt alone raised, later with the same
+    attempt, and byte for byte."""
+    first = signed(hash=hash)
+    return b"".join([first, *(signed(hash=hash, send_time=t, attempt=a) for t, a in ((61000, 1), (1000, 255), (121000, 0))), first])
 
 
 def each_refusal(hash):
@@ -90,6 +97,7 @@ def cases():
     yield "other-prk", good + good_512, PRK_64[::-1]
     yield "refusals-1", each_refusal(1), PRK_64
     yield "refusals-2", each_refusal(2), PRK_64
+    yield "retries", retries(1) + retries(2), PRK_64
     yield "smallest-and-largest", signed(()) + signed(largest, hash=2) + good, PRK_64
     yield "largest-sum", most, PRK_64
     yield "sum-over", most + signed([site(b"a", 1)]) + good, PRK_64

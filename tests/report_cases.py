@@ -282,7 +282,7 @@ def tags(hash):
     for tag in (
         rules.full_tag(other, KEY, before)[:size], rules.full_tag(hash, KEY, before)[-size:], bytes(size),
         rules.full_tag(hash, KEY, before[4:])[:size], rules.full_tag(hash, KEY, rules.fingerprint_message(worked))[:size],
-        made(hash=hash, send_time=1001)[-size:],
+        made(hash=hash, send_time=1001)[-size:], made(hash=hash, attempt=1)[-size:],
     ):
         yield checking(before + tag, KEY, 1)
     for sites in ((), [site(pattern(48))] * 3):
@@ -301,10 +301,13 @@ def fingerprints(hash):
         yield fingerprinting(worked, KEY, size, 6)
     for key in map(pattern, KEY_LENGTHS):
         yield fingerprinting(worked, key, 32, 0)
-    same = [worked, made(hash=hash, send_time=LARGEST_64), made(hash=hash, tag=bytes(TAG_BYTES[hash]))]
-    different = [made(hash=hash, attempt=1), made((), hash=hash), *shifted(hash)]
-    hold(len({rules.fingerprint(report, KEY, 32) for report in same}) == 1, "a fingerprint depends on the send time or the tag")
-    hold(len({rules.fingerprint(report, KEY, 32) for report in [worked] + different}) == 5, "two fingerprints are the same")
+    # The send time, the attempt and the tag change nothing; the bytes just before and just after the first two do.
+    resent = [made(hash=hash, send_time=LARGEST_64), *(made(hash=hash, send_time=61000, attempt=attempt) for attempt in (0, 1, 255))]
+    same = [worked, *resent, made(hash=hash, tag=bytes(TAG_BYTES[hash])), *(with_byte(worked, at, 1) for at in (26, 33, 34))]
+    different = [*(with_byte(worked, at, 1) for at in (25, 35)), made((), hash=hash), *shifted(hash)]
+    hold(len({rules.fingerprint(report, KEY, 32) for report in same}) == 1, "a fingerprint depends on the send time, attempt or tag")
+    distinct = {rules.fingerprint(report, KEY, 32) for report in [worked, *different]}
+    hold(len(distinct) == 1 + len(different), "two fingerprints are the same")
     for report in same + different:
         yield fingerprinting(report, KEY, 32, 0)
 

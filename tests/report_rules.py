@@ -144,7 +144,8 @@ def write(heading, labels, lengths, live, blocks, tag_key, size):
 
 
 def fingerprint_message(report):
-    return report[4:26] + report[34 : tag_start(report)]
+    """All but the count, the send time, the attempt and the tag."""
+    return report[4:26] + report[35 : tag_start(report)]
 
 
 def fingerprint(report, fingerprint_key, size):

@@ -16,9 +16,9 @@ _, prk = answers.extract(1, b"a salt that is no secret", b"the secret of this in
 _, keys = answers.report_keys(1, prk, 7, 258, 64)
 tag_key, fingerprint_key = keys[:32], keys[32:]
 fingerprints = set()
-for send_time in (1000, 61000):
+for send_time, attempt in ((1000, 0), (61000, 1)):
     sites = [site(b"cache.c:42", 1048576, 16), site(b"queue.c:7", 3000, 3)]
-    report = made(sites, key=tag_key, tenant=7, machine=258, number=9, send_time=send_time, attempt=0, memory=2**30)
+    report = made(sites, key=tag_key, tenant=7, machine=258, number=9, send_time=send_time, attempt=attempt, memory=2**30)
     _, fields = report_rules.read(report)
     _, fingerprint = answers.report_fingerprint(report, fingerprint_key, 32)
     fingerprints.add(fingerprint)

@@ -563,11 +563,27 @@ def drawn_writes(source):
         yield write(heading(hash=source.choice((1, 2)), **fields), drawn_columns(source, lengths), key, source.randrange(900))
 
 
+def retries(source):
+    """One report sent again and again, at any time and with any attempt: each sending has its own tag, and all have one fingerprint."""
+    for hash in HASHES:
+        key, sites = source.randbytes(DIGEST_BYTES[hash]), drawn_sites(source, 3)
+        fields = {name: source.getrandbits(8 * LAYOUT[name]) for name in FREE_FIELDS}
+        sent = [
+            made(sites, hash=hash, key=key, **{**fields, "send_time": source.getrandbits(64), "attempt": attempt})
+            for attempt in (0, 1, 2, 127, 128, 255)
+        ]
+        hold(len({answers.report_fingerprint(report, key, 32) for report in sent}) == 1, "a retry has another fingerprint")
+        for report in sent:
+            yield check(report, key)
+            yield fingerprint(report, key)
+            yield write_again(report, key)
+
+
 def all_cases(source):
     for part in (
         digests, tags, verifications, extractions, expansions, key_pairs, good_reports, report_keys_of_every_length,
         damaged_reports, two_damages, noise, sums, written_fields, written_buffers, unequal_columns, written_label_lengths,
-        written_labels, two_faults_of_writing, drawn_writes,
+        written_labels, two_faults_of_writing, drawn_writes, retries,
     ):
         yield from part(source)
 

@@ -12,13 +12,14 @@ use Rattle.algorithm.specs.Refusals.{mostBytes}
 use Rattle.hash.specs.Digest.{digestOf}
 use Rattle.hmac.specs.Form.{formOf, SameButZeros}
 use Rattle.hmac.specs.Hmac.{innerBlocksOf}
-use Rattle.report.specs.Layout.{AgreeButSendTime}
+use Rattle.report.specs.Layout.{AgreeButSendTimeAndAttempt}
 use Rattle.report.specs.Reading.{hashIn, beforeTag, readOf, WellFormed}
 use Rattle.report.specs.Fingerprint.{messageOf}
 
 pub record Demand3 : Type 0 where
   -- Under one hash, take two pairs of a key that is not refused with 3 and a well-formed report that names this hash. The fingerprints'
-  -- inner hashes are fed the same padded blocks exactly when the keys have one form and the reports differ at most in the send time.
+  -- inner hashes are fed the same padded blocks exactly when the keys have one form and the reports agree in every field but the send
+  -- time and the attempt.
   pub blocks : (h : Hash) (key key′ s t : List ℕ)
       → length key ≤ mostBytes
       → length key′ ≤ mostBytes
@@ -27,7 +28,7 @@ pub record Demand3 : Type 0 where
       → hashIn s ≡ h
       → hashIn t ≡ h
       → innerBlocksOf h key (messageOf s) ≡ innerBlocksOf h key′ (messageOf t)
-      ↔ ((formOf h key ≡ formOf h key′) × AgreeButSendTime (readOf s .1) (readOf t .1))
+      ↔ ((formOf h key ≡ formOf h key′) × AgreeButSendTimeAndAttempt (readOf s .1) (readOf t .1))
   -- Two keys of at most a block have one form exactly when only zeros at their ends set them apart.
   pub short-keys : (h : Hash) (key key′ : List ℕ) → length key ≤ blockOf h → length key′ ≤ blockOf h
       → formOf h key ≡ formOf h key′ ↔ SameButZeros key key′

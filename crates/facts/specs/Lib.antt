@@ -1,3 +1,4 @@
 pub mod Demand
 pub mod Starred
 pub mod Shortcut
+pub mod Retry

@@ -7,7 +7,7 @@ use Prim.Native.Nat.{ℕ, _+_}
 use lib.ListN.{replicate}
 use lib.Seq.{slice}
 use Rattle.octets.specs.Number.{bytes}
-use Rattle.report.specs.Layout.{Site, AgreeButSendTime}
+use Rattle.report.specs.Layout.{Site, AgreeButSendTimeAndAttempt}
 use Rattle.report.specs.Reading.{tagStart, sitesIn, readOf, WellFormed}
 use Rattle.report.specs.Fingerprint.{gapStart, gapEnd}
 
@@ -32,9 +32,9 @@ twoSites a x b y = 0 ∷ 0 ∷ 0 ∷ 86 ∷ 1 ∷ 1 ∷ replicate 37 0 ++ (0 ∷
 abbrev pub sevens : ℕ → List ℕ
 sevens n = replicate n 7
 
--- two well-formed reports share such a message, and disagree in more than the send time
+-- two well-formed reports share such a message, and disagree in more than the send time and the attempt
 pub record Shared (message : List ℕ → List ℕ) (s t : List ℕ) : Type 0 where
   pub first : WellFormed s
   pub second : WellFormed t
   pub same : message s ≡ message t
-  pub differ : AgreeButSendTime (readOf s .1) (readOf t .1) → ⊥
+  pub differ : AgreeButSendTimeAndAttempt (readOf s .1) (readOf t .1) → ⊥

@@ -67,6 +67,6 @@ pub record Starred : Type 0 where
   pub info :
       infoOf 1 7 258
       ≡ 0x00 ∷ 0x0e ∷ 0x01 ∷ 0x01 ∷ 0x00 ∷ 0x00 ∷ 0x00 ∷ 0x07 ∷ 0x00 ∷ 0x00 ∷ 0x00 ∷ 0x00 ∷ 0x00 ∷ 0x00 ∷ 0x01 ∷ 0x02 ∷ []
-  -- the worked report reads as its fields whatever its tag, and its fingerprint's message has 48 bytes
+  -- the worked report reads as its fields whatever its tag, and its fingerprint's message has 47 bytes
   pub worked-reads : (tag : List ℕ) → length tag ≡ 16 → readOf (worked ++ tag) ≡ (done, workedFields)
-  pub worked-message : (tag : List ℕ) → length tag ≡ 16 → length (messageOf (worked ++ tag)) ≡ 48
+  pub worked-message : (tag : List ℕ) → length tag ≡ 16 → length (messageOf (worked ++ tag)) ≡ 47

@@ -6,12 +6,12 @@ use lib.Seq.{slice}
 use Rattle.hmac.specs.Hmac.{tagOf}
 use Rattle.report.specs.Reading.{hashIn, tagStart}
 
--- the gap: where the send time stands
+-- the gap: where the send time and the attempt stand
 abbrev pub gapStart : ℕ
 gapStart = 26
 
 abbrev pub gapEnd : ℕ
-gapEnd = 34
+gapEnd = 35
 
 -- all bytes after the count and before the tag, but those of the gap
 unfoldable pub messageOf : List ℕ → List ℕ

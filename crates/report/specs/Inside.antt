@@ -27,9 +27,9 @@ pub record First (n size : ℕ) (l : List ℕ) : Type 0 where
   pub is : readSites (suc n) (size ∷ l) ≡ withSite (firstSite size l) (readSites n (drop (size + 12) l))
   pub rest : readSites n (drop (size + 12) l) .0 ≡ done
 
--- what the fields after the send time spell
-abbrev pub afterSent : Fields → List ℕ
-afterSent f = bytes 1 (f .attempt) ++ (bytes 8 (f .memory) ++ (bytes 2 (length (f .sites)) ++ sitesBytes (f .sites)))
+-- what the fields after the attempt spell
+abbrev pub afterAttempt : Fields → List ℕ
+afterAttempt f = bytes 8 (f .memory) ++ (bytes 2 (length (f .sites)) ++ sitesBytes (f .sites))
 
 -- what a report has that reading lets pass
 pub record Passed (s : List ℕ) : Type 0 where

@@ -65,14 +65,13 @@ unfoldable pub liveOf : List Site → ℕ
 liveOf [] = 0
 liveOf (x ∷ xs) = x .live + liveOf xs
 
--- two reports agree in every field but the send time
-pub record AgreeButSendTime (f g : Fields) : Type 0 where
+-- two reports agree in every field but the send time and the attempt
+pub record AgreeButSendTimeAndAttempt (f g : Fields) : Type 0 where
   pub count : f .count ≡ g .count
   pub version : f .version ≡ g .version
   pub hash : f .hash ≡ g .hash
   pub tenant : f .tenant ≡ g .tenant
   pub machine : f .machine ≡ g .machine
   pub report : f .report ≡ g .report
-  pub attempt : f .attempt ≡ g .attempt
   pub memory : f .memory ≡ g .memory
   pub sites : f .sites ≡ g .sites

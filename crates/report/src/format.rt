@@ -19,12 +19,12 @@ pub(crate) const LONGEST_LABEL: usize = 48;
 pub(crate) const BESIDE_LABEL: usize = 13;
 // Where the bytes start that the tag covers.
 pub(crate) const TAGGED_FROM: usize = 0;
-// Where the count ends, and the gap that the send time leaves in a fingerprint.
+// Where the count ends, and the gap that the send time and the attempt leave in a fingerprint.
 pub(crate) const COUNT_END: usize = 4;
 
 pub(crate) const GAP_START: usize = 26;
 
-pub(crate) const GAP_END: usize = 34;
+pub(crate) const GAP_END: usize = 35;
 // The bytes of a fingerprint.
 pub(crate) const FINGERPRINT: usize = 32;
 

@@ -44,8 +44,8 @@ zero-well-formed : WellFormed (worked ++ zeroTag)
 unfolding every
 zero-well-formed = record { bytes = refl; reads = ap (λ (r : ℕ × Fields). r .0) zero-reads }
 
--- and its message has 22 bytes before the gap, and 26 after it
-worked-length : (tag : List ℕ) → length tag ≡ 16 → length (messageOf (worked ++ tag)) ≡ 48
+-- and its message has 22 bytes before the gap, and 25 after it
+worked-length : (tag : List ℕ) → length tag ≡ 16 → length (messageOf (worked ++ tag)) ≡ 47
 unfolding messageOf
 worked-length tag e = ap (λ (l : List ℕ). length (slice 4 gapStart (worked ++ tag) ++ drop gapEnd l)) (before-tag tag e)
 

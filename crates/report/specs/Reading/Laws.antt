@@ -24,7 +24,7 @@ use Rattle.algorithm.specs.Checks.Refusing.{none, more}
 use Rattle.algorithm.specs.Checks.Laws.{done-passes, refuses}
 use Rattle.report.specs.Layout.{Site, siteBytes, sitesBytes, bytesOf, tagSize, smallestReport, largestReport, liveOf}
 use Rattle.report.specs.Reading.{hashNamed, tagSizeIn, tagStart, beforeTag, firstSite, withSite, readSites, sitesIn, sitesChecks, readChecks, fieldsOf, readOf, WellFormed}
-use Rattle.report.specs.Inside.{First, afterSent, Passed}
+use Rattle.report.specs.Inside.{First, afterAttempt, Passed}
 
 -- a report's tag is half a digest of its hash, 16 bytes at least and 32 at most
 pub tag-half : (n : ℕ) → 2 * tagSize n ≡ sizeOf (hashNamed n)
@@ -183,19 +183,20 @@ module _ (s : List ℕ) where
     spelled : (at n end : ℕ) → at + n ≡ end → end ≤ 45 → bytes n (numberAt s at n) ++ slice end (tagStart s) s ≡ slice at (tagStart s) s
     spelled at n end e h = number-between s (tagStart s) at n end (w .bytes) e (omega (arith, tag-low)) tag-high
 
-    -- the fields after the send time spell the bytes after it
-    pub after-sent : afterSent (fieldsOf s) ≡ slice 34 (tagStart s) s
-    after-sent =
+    -- the fields after the attempt spell the bytes after it
+    pub after-attempt : afterAttempt (fieldsOf s) ≡ slice 35 (tagStart s) s
+    after-attempt =
         let p : Passed s = well-formed-passed in
         let sites = sites-back (numberAt s 43 2) (drop 45 (beforeTag s)) (every-drop _ 45 (beforeTag s) (every-take _ (tagStart s) s (w .bytes))) (p .placed) in
-        rw (p .sites, sites, spelled 43 2 45 refl (lit≤ tt), spelled 35 8 43 refl (lit≤ tt), spelled 34 1 35 refl (lit≤ tt))
+        rw (p .sites, sites, spelled 43 2 45 refl (lit≤ tt), spelled 35 8 43 refl (lit≤ tt))
 
     -- the fields spell all bytes before the tag
     pub layout : beforeTag s ≡ bytesOf (fieldsOf s)
     unfolding bytesOf
     layout =
         rw (
-          after-sent,
+          after-attempt,
+          spelled 34 1 35 refl (lit≤ tt),
           spelled 26 8 34 refl (lit≤ tt),
           spelled 18 8 26 refl (lit≤ tt),
           spelled 10 8 18 refl (lit≤ tt),

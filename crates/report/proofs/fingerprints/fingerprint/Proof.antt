@@ -15,7 +15,7 @@ use Rattle.algorithm.specs.Checks.{firstFailing, written}
 use Rattle.hmac.specs.Hmac.{tagOf}
 use Rattle.report.specs.Reading.{namesHash, tagStart, beforeTag}
 use Rattle.report.specs.Reading.Laws.{short}
-use Rattle.report.specs.Fingerprint.{messageOf, fingerprintOf}
+use Rattle.report.specs.Fingerprint.{gapStart, gapEnd, messageOf, fingerprintOf}
 use Rattle.report.specs.Calls.{keyChecks}
 use Rattle.report.specs.Calls.Laws.{key-fits, fingerprint-refused, fingerprint-key, fingerprint-wrong-size, fingerprint-accepted}
 use Rattle.report.specs.Inside.{TwoPieces}
@@ -27,13 +27,13 @@ use Rattle.report.proofs.fingerprints.fingerprint.Tie as tie
 -- the two pieces of a report that passes, and the tag of both
 module _ (s key : List ℕ) {r : Checked} (p : Read s r) where
   pieces : (at : ℕ) (out : List ℕ) → firstFailing (keyChecks key) ≡ done → length out ≡ 32
-      → TwoPieces (r .hash) key (take 22 (drop 4 s)) (take (r .end - at) (drop at s)) out
+      → TwoPieces (r .hash) key (take (gapStart - 4) (drop 4 s)) (take (r .end - at) (drop at s)) out
   pieces at out d e =
       let low = end-low s p in
       let high = end-high s p in
       let few = short s (p .passes) in
       let before : length (beforeTag s) ≡ r .end = length-take-le (tagStart s) s (omega arith) ∙ sym (p .end) in
-      let first : length (take 22 (drop 4 s)) ≡ 22 = length-take-le 22 (drop 4 s) (rw length-drop (omega arith)) in
+      let first : length (take (gapStart - 4) (drop 4 s)) ≡ gapStart - 4 = length-take-le (gapStart - 4) (drop 4 s) (rw length-drop (omega arith)) in
       let second = length-take (r .end - at) (drop at s) in
       record {
         known = ap namesHash (p .hash) ∙ p .passes .known;
@@ -42,11 +42,11 @@ module _ (s key : List ℕ) {r : Checked} (p : Read s r) where
         size = e;
       }
 
-  tagged : {o : List ℕ} → o ≡ tagOf (hashOf (r .hash)) key 32 (take 22 (drop 4 s) ++ take (r .end - 34) (drop 34 s)) → o ≡ fingerprintOf s key
+  tagged : {o : List ℕ} → o ≡ tagOf (hashOf (r .hash)) key 32 (take (gapStart - 4) (drop 4 s) ++ take (r .end - gapEnd) (drop gapEnd s)) → o ≡ fingerprintOf s key
   unfolding messageOf
   tagged e =
       e
-      ∙ (λ j. tagOf ((ap hashOf (p .hash) ∙ hash-is s p) j) key 32 (part-slice 4 26 s j ++ (part-slice 34 (r .end) s ∙ ap (λ (t : ℕ). slice 34 t s) (p .end)) j))
+      ∙ (λ j. tagOf ((ap hashOf (p .hash) ∙ hash-is s p) j) key 32 (part-slice 4 gapStart s j ++ (part-slice gapEnd (r .end) s ∙ ap (λ (t : ℕ). slice gapEnd t s) (p .end)) j))
 
 returns : tie.Need-returns
 returns c =
