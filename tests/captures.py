@@ -61,7 +61,11 @@ def retries(hash):
     """A report sent once, then again and again: later with a raised attempt, with the attempt alone raised, later with the same
     attempt, and byte for byte."""
     first = signed(hash=hash)
-    return b"".join([first, *(signed(hash=hash, send_time=t, attempt=a) for t, a in ((61000, 1), (1000, 255), (121000, 0))), first])
+    again = [
+        signed(hash=hash, send_time=send_time, attempt=attempt)
+        for send_time, attempt in ((61000, 1), (1000, 255), (121000, 0))
+    ]
+    return b"".join([first, *again, first])
 
 
 def each_refusal(hash):

@@ -28,6 +28,7 @@ pub record Retry : Type 0 where
   pub tagged : (s t : List ℕ) → SentAgain s t
       → beforeTag s ≡ beforeTag t ↔ ((readOf s .1 .sent ≡ readOf t .1 .sent) × (readOf s .1 .attempt ≡ readOf t .1 .attempt))
 
--- the smallest report under hash 1, sent at a time below 256 and as an attempt; tenant, machine, report number, memory and tag are zeros
+-- the smallest report under hash 1, sent at this time, below 256, with this attempt; tenant, machine, report number, memory and tag are
+-- zeros
 abbrev pub smallestWith : ℕ → ℕ → List ℕ
 smallestWith time attempt = 0 ∷ 0 ∷ 0 ∷ 57 ∷ 1 ∷ 1 ∷ replicate 27 0 ++ (time ∷ attempt ∷ replicate 26 0)

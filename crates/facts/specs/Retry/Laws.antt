@@ -50,32 +50,27 @@ module _ (s t : List ℕ) (a : SentAgain s t) where
 
   -- the bytes before a tag are read as all fields, and all fields spell them
   tagged-same : beforeTag s ≡ beforeTag t ↔ ((readOf s .1 .sent ≡ readOf t .1 .sent) × (readOf s .1 .attempt ≡ readOf t .1 .attempt))
-  tagged-same = (there, back)
-    where
-      there : beforeTag s ≡ beforeTag t → (readOf s .1 .sent ≡ readOf t .1 .sent) × (readOf s .1 .attempt ≡ readOf t .1 .attempt)
-      there e =
-          let reads = demand-3 .tag-no-field s t (a .first) e in
-          (λ i. reads i .1 .sent, λ i. reads i .1 .attempt)
-
-      back : (readOf s .1 .sent ≡ readOf t .1 .sent) × (readOf s .1 .attempt ≡ readOf t .1 .attempt) → beforeTag s ≡ beforeTag t
-      back e =
-          let fields : readOf s .1 ≡ readOf t .1 =
-          λ i. record {
-            count = a .agree .count i;
-            version = a .agree .version i;
-            hash = a .agree .hash i;
-            tenant = a .agree .tenant i;
-            machine = a .agree .machine i;
-            report = a .agree .report i;
-            sent = e .0 i;
-            attempt = e .1 i;
-            memory = a .agree .memory i;
-            sites = a .agree .sites i;
-          }
-          in
-          layout s (a .first)
-          ∙ ap bytesOf (sym (read-fields s (a .first .reads)) ∙ fields ∙ read-fields t (a .second .reads))
-          ∙ sym (layout t (a .second))
+  tagged-same = (
+    λ e. let reads = demand-3 .tag-no-field s t (a .first) e in (λ i. reads i .1 .sent, λ i. reads i .1 .attempt),
+    λ e.
+        let fields : readOf s .1 ≡ readOf t .1 =
+        λ i. record {
+          count = a .agree .count i;
+          version = a .agree .version i;
+          hash = a .agree .hash i;
+          tenant = a .agree .tenant i;
+          machine = a .agree .machine i;
+          report = a .agree .report i;
+          sent = e .0 i;
+          attempt = e .1 i;
+          memory = a .agree .memory i;
+          sites = a .agree .sites i;
+        }
+        in
+        layout s (a .first)
+        ∙ ap bytesOf (sym (read-fields s (a .first .reads)) ∙ fields ∙ read-fields t (a .second .reads))
+        ∙ sym (layout t (a .second)),
+  )
 
 pub retry : Retry
 retry = record {
