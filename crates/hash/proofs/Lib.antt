@@ -1,7 +1,9 @@
+pub mod Bits
 pub mod Word
 pub mod Numbers
 pub mod Schedule
 pub mod Rounds
+pub mod Ring
 pub mod Tables
 pub mod Loops
 pub mod LastBlocks

@@ -1,4 +1,4 @@
--- The invariants of the loops that both widths have, with their laws: words that are written one a turn, and blocks that are taken
+-- The invariants of the loops that both widths have, with their laws: words that are copied one a turn, and blocks that are taken
 -- one a turn. Assumes nothing.
 use mathlib.Core.Path.{_≡_, refl, sym, ap, _∙_}
 use mathlib.Core.List.{List, [], _∷_, _++_}
@@ -7,46 +7,38 @@ use native.Mathlib.Nat.{le-of-eq}
 use native.Mathlib.Numerals.{add-one}
 use native.Mathlib.Omega.{arith}
 use lib.ListN.{length, getD, take, drop, set, length-set, length-drop}
-use lib.Seq.{take-suc, take-all, drop-drop}
+use lib.Seq.{take-suc, take-suc-set, take-all, drop-drop}
 use Rattle.hash.specs.Description.{Core}
 use Rattle.hash.specs.Blocks.{wordsAfter}
 use Rattle.hash.specs.Blocks.Laws.{words-short, words-step}
 use Rattle.hash.specs.Sha2.{blockSize, step}
-use Rattle.hash.proofs.Schedule.{store}
 
--- the first i words of an array of n are written, of m: they are those that `front` gives
-pub record Written (front : ℕ → List ℕ) (m n : ℕ) (out : List ℕ) (i : ℕ) : Type 0 where
-  pub within : i ≤ m
+-- the first i words of an array are those of a list of n words
+pub record Copied (l : List ℕ) (n : ℕ) (out : List ℕ) (i : ℕ) : Type 0 where
+  pub within : i ≤ n
   pub size : length out ≡ n
-  pub is : take i out ≡ front i
+  pub is : take i out ≡ take i l
 
-pub none : {front : ℕ → List ℕ} {m n : ℕ} {out : List ℕ} → length out ≡ n → [] ≡ front 0 → Written front m n out 0
-none s e = record { within = zero-le; size = s; is = e }
-
-module _ {front : ℕ → List ℕ} {m n : ℕ} {out : List ℕ} {i : ℕ} (c : Written front m n out i) where
-  pub more : (x : ℕ) → i < m → i < n → front (i + 1) ≡ front i ++ (x ∷ []) → Written front m n (set out i x) (i + 1)
-  more x h k e =
-      record {
-        within = omega arith;
-        size = length-set out i x ∙ c .size;
-        is = store out i x (omega arith) (c .is) ∙ sym e;
-      }
-
-  pub done : m ≤ i → take m out ≡ front m
-  done h = let e : i ≡ m = omega arith in rw e at (c .is)
-
--- where they are those of a list of n words
-abbrev pub Copied : List ℕ → ℕ → List ℕ → ℕ → Type 0
-Copied l n out i = Written (λ j. take j l) n n out i
+pub none : {l : List ℕ} {n : ℕ} {out : List ℕ} → length out ≡ n → Copied l n out 0
+none s = record { within = zero-le; size = s; is = refl }
 
 module _ {l out : List ℕ} {n i : ℕ} (c : Copied l n out i) (e : length l ≡ n) where
   pub copy : (x : ℕ) → i < n → x ≡ getD l i 0 → Copied l n (set out i x) (i + 1)
   copy x h f =
-      more c x h h
-      (ap (λ (j : ℕ). take j l) (add-one i) ∙ take-suc l i 0 (omega arith) ∙ ap (λ (y : ℕ). take i l ++ (y ∷ [])) (sym f))
+      record {
+        within = omega arith;
+        size = length-set out i x ∙ c .size;
+        is = ap (λ (j : ℕ). take j (set out i x)) (add-one i)
+            ∙ take-suc-set out i x (omega (arith, c .size))
+            ∙ (λ j. c .is j ++ (f j ∷ []))
+            ∙ sym (take-suc l i 0 (omega arith))
+            ∙ ap (λ (j : ℕ). take j l) (sym (add-one i));
+      }
 
   pub copied : n ≤ i → out ≡ l
-  copied h = sym (take-all n out (le-of-eq (c .size))) ∙ done c h ∙ take-all n l (le-of-eq e)
+  copied h =
+      let f : i ≡ n = omega arith in
+      sym (take-all n out (le-of-eq (c .size))) ∙ (rw f at (c .is)) ∙ take-all n l (le-of-eq e)
 
 -- the blocks before `at` are taken: the words after those that are left are the words after all
 pub record Taken (C : Core) (bytes first ws : List ℕ) (at : ℕ) : Type 0 where

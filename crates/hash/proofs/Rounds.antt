@@ -2,8 +2,7 @@
 -- Assumes nothing.
 use mathlib.Core.Path.{_≡_, refl, sym, ap, _∙_}
 use mathlib.Core.List.{List, [], _∷_}
-use Prim.Native.Nat.{ℕ, zero, suc, _+_, _-_, _<_}
-use native.Mathlib.Numerals.{add-one}
+use Prim.Native.Nat.{ℕ, zero, suc, _-_, _<_}
 use native.Mathlib.Omega.{arith}
 use lib.ListN.{length, getD, take, List·getD-map}
 use lib.Seq.{getD-take}
@@ -43,12 +42,6 @@ module _ (C : Core) where
   unfolding round
   round-code v k w p q i j = cc
 
-  -- a turn of the loop over the rounds
-  pub rounds-more : (ws h : List ℕ) (t : ℕ) {v r : List ℕ} {kt : ℕ} → v ≡ rounds C ws h t → kt ≡ getD (C .k) t 0
-      → r ≡ round C v kt (getD ws t 0) → r ≡ rounds C ws h (t + 1)
-  unfolding rounds
-  rounds-more ws h t e g f = f ∙ (λ i. round C (e i) (g i) (getD ws t 0)) ∙ ap (rounds C ws h) (sym (add-one t))
-
   -- each of the eight sums
   pub sums-at : (h v : List ℕ) (i : ℕ) → i < 8 → add (C .width) (getD h i 0) (getD v i 0) ≡ getD (sums C h v) i 0
   unfolding sums
@@ -66,7 +59,7 @@ module _ (C : Core) where
   unfolding sums
   sums-length h v = refl
 
-  pub step-code : (h b : List ℕ) {ws v r : List ℕ} → ws ≡ schedule C b (C .rounds - 16) → v ≡ rounds C ws h (C .rounds)
-      → r ≡ sums C h v → r ≡ step C h b
+  pub step-code : (h b : List ℕ) {v r : List ℕ} → v ≡ rounds C (schedule C b (C .rounds - 16)) h (C .rounds) → r ≡ sums C h v
+      → r ≡ step C h b
   unfolding step
-  step-code h b e f g = g ∙ ap (sums C h) (f ∙ ap (λ (l : List ℕ). rounds C l h (C .rounds)) e)
+  step-code h b e f = f ∙ ap (sums C h) e

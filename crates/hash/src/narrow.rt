@@ -3,18 +3,26 @@ use crate::table::upper;
 use crate::words::word32;
 use std::num::wrapping_add_u32 as add;
 ghost use mathlib.Core.Path.{_≡_};
-ghost use Prim.Native.Nat.{_<_, _≤_};
-ghost use lib.ListN.{length, take};
+ghost use Prim.Native.Nat.{_+_, _<_, _≤_};
+ghost use lib.ListN.{length};
 ghost use Rattle.hash.specs.Word.{rotr, ch, maj};
 ghost use Rattle.hash.specs.Table.{k64};
 ghost use Rattle.hash.specs.Description.{narrow};
 ghost use Rattle.hash.specs.Blocks.{wordsAfter};
+ghost use Rattle.hash.specs.Ring.{roundAt, roundsOver, slide, advance, advanced, progressAt};
 ghost use Rattle.hash.specs.Sha2 as sha;
 
 // The bytes of a word and of a block.
 pub(crate) const WORD: usize = 4;
 
 const BLOCK: usize = 16 * WORD;
+
+// How far the rounds of a block have come: the eight working variables, a to h in the standard, and the ring, which holds the words
+// of the schedule for the next sixteen rounds, the nearest first.
+struct Progress {
+    variables: [u32; 8],
+    ring: [u32; 16],
+}
 
 fn rotr(x: u32, n: u32) -> u32
     requires { ⌜ (0 < n) × (n < 32) ⌝ }
@@ -23,40 +31,43 @@ fn rotr(x: u32, n: u32) -> u32
     (x >> n) | (x << (32 - n))
 }
 
+// Ch and Maj have one operation less than in the standard, for speed.
 fn ch(x: u32, y: u32, z: u32) -> u32
     ensures { λ r. ⌜ r ≡ ch 32 x y z ⌝ }
 {
-    (x & y) ^ (!x & z)
+    (x & (y ^ z)) ^ z
 }
 
 fn maj(x: u32, y: u32, z: u32) -> u32
     ensures { λ r. ⌜ r ≡ maj x y z ⌝ }
 {
-    (x & y) ^ (x & z) ^ (y & z)
+    ((x ^ y) & (y ^ z)) ^ y
 }
 
+// The rotations of the four sigma functions are nested, for speed: the innermost word is rotated by 22 - 13, by 13 - 2 and by 2, which
+// is by 22.
 fn big0(x: u32) -> u32
     ensures { λ r. ⌜ r ≡ sha.big0 narrow x ⌝ }
 {
-    rotr(x, 2) ^ rotr(x, 13) ^ rotr(x, 22)
+    rotr(x ^ rotr(x ^ rotr(x, 22 - 13), 13 - 2), 2)
 }
 
 fn big1(x: u32) -> u32
     ensures { λ r. ⌜ r ≡ sha.big1 narrow x ⌝ }
 {
-    rotr(x, 6) ^ rotr(x, 11) ^ rotr(x, 25)
+    rotr(x ^ rotr(x ^ rotr(x, 25 - 11), 11 - 6), 6)
 }
 
 fn small0(x: u32) -> u32
     ensures { λ r. ⌜ r ≡ sha.small0 narrow x ⌝ }
 {
-    rotr(x, 7) ^ rotr(x, 18) ^ (x >> 3)
+    rotr(x ^ rotr(x, 18 - 7), 7) ^ (x >> 3)
 }
 
 fn small1(x: u32) -> u32
     ensures { λ r. ⌜ r ≡ sha.small1 narrow x ⌝ }
 {
-    rotr(x, 17) ^ rotr(x, 19) ^ (x >> 10)
+    rotr(x ^ rotr(x, 19 - 17), 17) ^ (x >> 10)
 }
 
 fn t1(e: u32, f: u32, g: u32, h: u32, k: u32, w: u32) -> u32
@@ -93,39 +104,144 @@ fn mix(w2: u32, w7: u32, w15: u32, w16: u32) -> u32
     add(add(add(small1(w2), w7), small0(w15)), w16)
 }
 
-// The block's sixteen words, with zeros after them.
-fn load(b: &[u8]) -> [u32; 64]
-    requires { ⌜ 64 ≤ length (now b) ⌝ }
-    ensures { λ r. ⌜ take 16 r ≡ sha.words narrow (now (b .entry)) 16 ⌝ }
+// The round t, with its word of the schedule; `k` is the table.
+fn round_at(v: [u32; 8], k: &[u64; 80], t: usize, w: u32) -> [u32; 8]
+    requires { ⌜ (t < 64) × (now k ≡ k64) ⌝ }
+    ensures { λ r. ⌜ r ≡ roundAt narrow v t w ⌝ }
 {
-    let mut w = [0u32; 64];
-    for t in 0..16 {
-        w[t] = word32(b, WORD * t);
-    }
-    w
+    round(v, upper(k[t]), w)
 }
 
-fn schedule(b: &[u8]) -> [u32; 64]
-    requires { ⌜ 64 ≤ length (now b) ⌝ }
-    ensures { λ r. ⌜ r ≡ sha.schedule narrow (now (b .entry)) 48 ⌝ }
+// The ring one word on.
+fn slide(ring: [u32; 16]) -> [u32; 16]
+    ensures { λ r. ⌜ r ≡ slide narrow ring ⌝ }
 {
-    let mut w = load(b);
-    for t in 16..64 {
-        w[t] = mix(w[t - 2], w[t - 7], w[t - 15], w[t - 16]);
-    }
-    w
+    let next = mix(ring[14], ring[9], ring[1], ring[0]);
+    [
+        ring[1],
+        ring[2],
+        ring[3],
+        ring[4],
+        ring[5],
+        ring[6],
+        ring[7],
+        ring[8],
+        ring[9],
+        ring[10],
+        ring[11],
+        ring[12],
+        ring[13],
+        ring[14],
+        ring[15],
+        next,
+    ]
 }
 
-fn rounds(w: [u32; 64], s: [u32; 8], k: &[u64; 80]) -> [u32; 8]
+// The round t with the ring's first word, and the ring one word on.
+fn advance(progress: Progress, k: &[u64; 80], t: usize) -> Progress
+    requires { ⌜ (t < 64) × (now k ≡ k64) ⌝ }
+    ensures { λ r. ⌜ (r .variables, r .ring) ≡ advance narrow t (progress .variables, progress .ring) ⌝ }
+{
+    let v = progress.variables;
+    let x = progress.ring;
+    let variables = round_at(v, k, t, x[0]);
+    let ring = slide(x);
+    Progress { variables, ring }
+}
+
+// The eight rounds from t on, each with the ring's first word.
+fn advance_eight(p: Progress, k: &[u64; 80], t: usize) -> Progress
+    requires { ⌜ (t + 8 ≤ 64) × (now k ≡ k64) ⌝ }
+    ensures { λ r. ⌜ (r .variables, r .ring) ≡ advanced narrow t (p .variables, p .ring) 8 ⌝ }
+{
+    let p1 = advance(p, k, t);
+    let p2 = advance(p1, k, t + 1);
+    let p3 = advance(p2, k, t + 2);
+    let p4 = advance(p3, k, t + 3);
+    let p5 = advance(p4, k, t + 4);
+    let p6 = advance(p5, k, t + 5);
+    let p7 = advance(p6, k, t + 6);
+    advance(p7, k, t + 7)
+}
+
+// The last sixteen rounds, whose words are all in the ring.
+fn last_rounds(progress: Progress, k: &[u64; 80]) -> [u32; 8]
     requires { ⌜ now k ≡ k64 ⌝ }
-    ensures { λ r. ⌜ r ≡ sha.rounds narrow w s 64 ⌝ }
+    ensures { λ r. ⌜ r ≡ roundsOver narrow 48 (progress .ring) (progress .variables) 16 ⌝ }
 {
-    let mut v = s;
-    for t in 0..64 {
-        let n = round(v, upper(k[t]), w[t]);
-        v = n;
+    let v = progress.variables;
+    let ring = progress.ring;
+    let v1 = round_at(v, k, 48, ring[0]);
+    let v2 = round_at(v1, k, 49, ring[1]);
+    let v3 = round_at(v2, k, 50, ring[2]);
+    let v4 = round_at(v3, k, 51, ring[3]);
+    let v5 = round_at(v4, k, 52, ring[4]);
+    let v6 = round_at(v5, k, 53, ring[5]);
+    let v7 = round_at(v6, k, 54, ring[6]);
+    let v8 = round_at(v7, k, 55, ring[7]);
+    let v9 = round_at(v8, k, 56, ring[8]);
+    let v10 = round_at(v9, k, 57, ring[9]);
+    let v11 = round_at(v10, k, 58, ring[10]);
+    let v12 = round_at(v11, k, 59, ring[11]);
+    let v13 = round_at(v12, k, 60, ring[12]);
+    let v14 = round_at(v13, k, 61, ring[13]);
+    let v15 = round_at(v14, k, 62, ring[14]);
+    round_at(v15, k, 63, ring[15])
+}
+
+// The word t of the block that starts the bytes.
+fn word_at(b: &[u8], t: usize) -> u32
+    requires { ⌜ (t < 16) × (64 ≤ length (now b)) ⌝ }
+    ensures { λ r. ⌜ r ≡ sha.word narrow (now (b .entry)) t ⌝ }
+{
+    word32(b, WORD * t)
+}
+
+// All sixteen. They are written out, since a loop would keep them in an array beside the ring.
+fn block_words(b: &[u8]) -> [u32; 16]
+    requires { ⌜ 64 ≤ length (now b) ⌝ }
+    ensures { λ r. ⌜ r ≡ sha.words narrow (now (b .entry)) 16 ⌝ }
+{
+    [
+        word_at(b, 0),
+        word_at(b, 1),
+        word_at(b, 2),
+        word_at(b, 3),
+        word_at(b, 4),
+        word_at(b, 5),
+        word_at(b, 6),
+        word_at(b, 7),
+        word_at(b, 8),
+        word_at(b, 9),
+        word_at(b, 10),
+        word_at(b, 11),
+        word_at(b, 12),
+        word_at(b, 13),
+        word_at(b, 14),
+        word_at(b, 15),
+    ]
+}
+
+// All rounds but the last sixteen: each also makes the word that comes sixteen rounds later.
+fn sliding_rounds(s: [u32; 8], b: &[u8], k: &[u64; 80]) -> Progress
+    requires { ⌜ (64 ≤ length (now b)) × (now k ≡ k64) ⌝ }
+    ensures { λ r. ⌜ (r .variables, r .ring) ≡ progressAt narrow s (now (b .entry)) 48 ⌝ }
+{
+    let ring = block_words(b);
+    let mut progress = Progress { variables: s, ring };
+    for i in 0..6 {
+        let next = advance_eight(progress, k, 8 * i);
+        progress = next;
     }
-    v
+    progress
+}
+
+fn rounds(s: [u32; 8], b: &[u8], k: &[u64; 80]) -> [u32; 8]
+    requires { ⌜ (64 ≤ length (now b)) × (now k ≡ k64) ⌝ }
+    ensures { λ r. ⌜ r ≡ sha.rounds narrow (sha.schedule narrow (now (b .entry)) 48) s 64 ⌝ }
+{
+    let progress = sliding_rounds(s, b, k);
+    last_rounds(progress, k)
 }
 
 fn sums(s: [u32; 8], v: [u32; 8]) -> [u32; 8]
@@ -143,8 +259,7 @@ fn step(s: [u32; 8], b: &[u8], k: &[u64; 80]) -> [u32; 8]
     requires { ⌜ (64 ≤ length (now b)) × (now k ≡ k64) ⌝ }
     ensures { λ r. ⌜ r ≡ sha.step narrow s (now (b .entry)) ⌝ }
 {
-    let w = schedule(b);
-    let v = rounds(w, s, k);
+    let v = rounds(s, b, k);
     sums(s, v)
 }
 

@@ -22,5 +22,5 @@ returns c = copied (c .before .loop .inv) (c .before .before .good .0 .1 .0 .1) 
 pub widened-spec : {M : Type 1} → statement M
 widened-spec =
     tie.close
-    (tie.spec Inv-loop μ-loop (λ c. none refl refl) (λ c. omega arith) (λ c. omega arith)
+    (tie.spec Inv-loop μ-loop (λ c. none refl) (λ c. omega arith) (λ c. omega arith)
     (λ c. search needs) (λ c. omega arith) (λ c. omega arith) (λ c. omega arith) (λ c. omega arith) loop-again returns)

@@ -1,4 +1,5 @@
--- `hash::narrow::big0` is three rotations. Assumes nothing.
+-- `hash::narrow::big0` is three nested rotations. Assumes nothing.
+use lib.Dec.{lit≤}
 use borrow.Author.Needs.{needs}
 use Rattle.hash.specs.Description.{narrow}
 use Rattle.hash.specs.Sha2.{big0}
@@ -9,8 +10,11 @@ use Rattle.hash.proofs.narrow.big0.Tie as tie
 returns : tie.Need-returns
 unfolding big0 narrow
 returns c =
-    big-code 32 (narrow .big0-by) (c .before .before .before .args .x) (c .before .before .rotr .ensures)
+    let start = c .before .before .before in
+    big-code 32 (narrow .big0-by) (start .args .x) (lit≤ tt) (lit≤ tt) (lit≤ tt) (start .fits .x .fits) (c .before .before .rotr .ensures)
     (c .before .rotr2 .ensures) (c .rotr3 .ensures)
 
 pub big0-spec : {M : Type 1} → statement M
-big0-spec = tie.close (tie.spec (λ c κs. search needs) (λ c κs. search needs) (λ c κs. search needs) returns)
+big0-spec =
+    tie.close
+    (tie.spec (λ c. search needs) (λ c κs. search needs) (λ c. search needs) (λ c κs. search needs) (λ c κs. search needs) returns)

@@ -1,4 +1,5 @@
--- `hash::narrow::small0` is two rotations and a shift. Assumes nothing.
+-- `hash::narrow::small0` is two nested rotations and a shift. Assumes nothing.
+use lib.Dec.{lit≤}
 use borrow.Author.Needs.{needs}
 use Rattle.hash.specs.Description.{narrow}
 use Rattle.hash.specs.Sha2.{small0}
@@ -8,7 +9,9 @@ use Rattle.hash.proofs.narrow.small0.Tie as tie
 
 returns : tie.Need-returns
 unfolding small0 narrow
-returns c = small-code 32 (narrow .small0-by) (c .before .before .args .x) (c .before .rotr .ensures) (c .rotr2 .ensures)
+returns c =
+    let start = c .before .before in
+    small-code 32 (narrow .small0-by) (start .args .x) (lit≤ tt) (lit≤ tt) (start .fits .x .fits) (c .before .rotr .ensures) (c .rotr2 .ensures)
 
 pub small0-spec : {M : Type 1} → statement M
-small0-spec = tie.close (tie.spec (λ c κs. search needs) (λ c κs. search needs) returns)
+small0-spec = tie.close (tie.spec (λ c. search needs) (λ c κs. search needs) (λ c κs. search needs) returns)

@@ -1,4 +1,5 @@
--- `hash::narrow::small1` is two rotations and a shift. Assumes nothing.
+-- `hash::narrow::small1` is two nested rotations and a shift. Assumes nothing.
+use lib.Dec.{lit≤}
 use borrow.Author.Needs.{needs}
 use Rattle.hash.specs.Description.{narrow}
 use Rattle.hash.specs.Sha2.{small1}
@@ -8,7 +9,9 @@ use Rattle.hash.proofs.narrow.small1.Tie as tie
 
 returns : tie.Need-returns
 unfolding small1 narrow
-returns c = small-code 32 (narrow .small1-by) (c .before .before .args .x) (c .before .rotr .ensures) (c .rotr2 .ensures)
+returns c =
+    let start = c .before .before in
+    small-code 32 (narrow .small1-by) (start .args .x) (lit≤ tt) (lit≤ tt) (start .fits .x .fits) (c .before .rotr .ensures) (c .rotr2 .ensures)
 
 pub small1-spec : {M : Type 1} → statement M
-small1-spec = tie.close (tie.spec (λ c κs. search needs) (λ c κs. search needs) returns)
+small1-spec = tie.close (tie.spec (λ c. search needs) (λ c κs. search needs) (λ c κs. search needs) returns)

@@ -29,5 +29,5 @@ returns c = copied (c .before .loop .inv) (sums-length narrow (c .before .before
 pub sums-spec : {M : Type 1} → statement M
 sums-spec =
     tie.close
-    (tie.spec Inv-loop μ-loop (λ c. none refl refl) (λ c. search needs) (λ c. search needs)
+    (tie.spec Inv-loop μ-loop (λ c. none refl) (λ c. search needs) (λ c. search needs)
     (λ c. search needs) (λ c. search needs) (λ c κs. tt) (λ c. search needs) (λ c. omega arith) (λ c. omega arith) (λ c. omega arith) loop-again returns)

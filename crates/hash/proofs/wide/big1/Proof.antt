@@ -1,4 +1,5 @@
--- `hash::wide::big1` is three rotations. Assumes nothing.
+-- `hash::wide::big1` is three nested rotations. Assumes nothing.
+use lib.Dec.{lit≤}
 use borrow.Author.Needs.{needs}
 use Rattle.hash.specs.Description.{wide}
 use Rattle.hash.specs.Sha2.{big1}
@@ -9,8 +10,11 @@ use Rattle.hash.proofs.wide.big1.Tie as tie
 returns : tie.Need-returns
 unfolding big1 wide
 returns c =
-    big-code 64 (wide .big1-by) (c .before .before .before .args .x) (c .before .before .rotr .ensures)
+    let start = c .before .before .before in
+    big-code 64 (wide .big1-by) (start .args .x) (lit≤ tt) (lit≤ tt) (lit≤ tt) (start .fits .x .fits) (c .before .before .rotr .ensures)
     (c .before .rotr2 .ensures) (c .rotr3 .ensures)
 
 pub big1-spec : {M : Type 1} → statement M
-big1-spec = tie.close (tie.spec (λ c κs. search needs) (λ c κs. search needs) (λ c κs. search needs) returns)
+big1-spec =
+    tie.close
+    (tie.spec (λ c. search needs) (λ c κs. search needs) (λ c. search needs) (λ c κs. search needs) (λ c κs. search needs) returns)

@@ -9,9 +9,8 @@ use Rattle.hash.proofs.wide.step.Tie as tie
 returns : tie.Need-returns
 unfolding wide
 returns c =
-    let entry = c .before .before .before .before .args in
-    step-code wide (entry .s) (now (entry .b)) (c .before .before .schedule .ensures) (c .before .rounds .ensures)
-    (c .sums .ensures)
+    let entry = c .before .before .before .args in
+    step-code wide (entry .s) (now (entry .b)) (c .before .rounds .ensures) (c .sums .ensures)
 
 pub step-spec : {M : Type 1} → statement M
-step-spec = tie.close (tie.spec (λ c κs. search needs) (λ c κs. search needs) (λ c κs. search needs) returns)
+step-spec = tie.close (tie.spec (λ c κs. search needs) (λ c κs. search needs) returns)
