@@ -13,8 +13,8 @@
  * written, with 0 where the call is refused. It must not be NULL, must be aligned for its type, and the number must not overlap any
  * buffer of the same call.
  *
- * A call takes some 5 KiB of the caller's stack at most. docs/LIMITS.md has the bytes of each call, and what a signal handler that runs
- * on a stack of its own has to see to.
+ * A call uses up to some 5 KiB of the caller's stack, as far as was measured. docs/LIMITS.md has the bytes of each call, and what a
+ * signal handler that runs on a stack of its own has to see to.
  */
 #ifndef TIRMUZZLE_H
 #define TIRMUZZLE_H

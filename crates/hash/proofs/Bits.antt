@@ -13,7 +13,7 @@ record Bitwise (F : ℕ → ℕ → ℕ → ℕ) : Type 0 where
   half : (a b c : ℕ) → F a b c / 2 ≡ F (a / 2) (b / 2) (c / 2)
   low : (a b c : ℕ) → F a b c % 2 ≡ F (a % 2) (b % 2) (c % 2)
 
--- each of the three numbers is one, and what `and` and `xor` make of two
+-- each of the three arguments by itself is such a function
 of-first : Bitwise (λ a b c. a)
 of-first = record { half = λ a b c. refl; low = λ a b c. refl }
 
@@ -30,6 +30,7 @@ a-bit P p q (suc zero) h = q
 a-bit P p q (suc (suc x)) h = absurd (omega arith)
 
 module _ {F G : ℕ → ℕ → ℕ → ℕ} (f : Bitwise F) (g : Bitwise G) where
+  -- and so is what `and` or `xor` makes of two such functions
   of-and : Bitwise (λ a b c. bitAnd (F a b c) (G a b c))
   of-and =
       record {
@@ -58,7 +59,7 @@ module _ {F G : ℕ → ℕ → ℕ → ℕ} (f : Bitwise F) (g : Bitwise G) whe
       (second-of 1 (third-of 1 0 e100 e101) (third-of 1 1 e110 e111))
       a i
 
-  -- and so on numbers up to n, by halving
+  -- then they agree on numbers up to n, by halving
   up-to : ((a b c : ℕ) → a < 2 → b < 2 → c < 2 → F a b c ≡ G a b c) → (n a b c : ℕ) → a ≤ n → b ≤ n → c ≤ n → F a b c ≡ G a b c
   up-to e zero a b c i j k = e a b c (omega arith) (omega arith) (omega arith)
   up-to e (suc n) a b c i j k =
@@ -68,7 +69,7 @@ module _ {F G : ℕ → ℕ → ℕ → ℕ} (f : Bitwise F) (g : Bitwise G) whe
       f .low a b c ∙ e (a % 2) (b % 2) (c % 2) (mod-lt a (lit< tt)) (mod-lt b (lit< tt)) (mod-lt c (lit< tt)) ∙ sym (g .low a b c) in
       omega (arith, div-add-mod' (F a b c) 2, div-add-mod' (G a b c) 2, halves, lows)
 
-  -- and so on all numbers
+  -- then they agree on all numbers
   agreeing : F 0 0 0 ≡ G 0 0 0 → F 0 0 1 ≡ G 0 0 1 → F 0 1 0 ≡ G 0 1 0 → F 0 1 1 ≡ G 0 1 1
       → F 1 0 0 ≡ G 1 0 0 → F 1 0 1 ≡ G 1 0 1 → F 1 1 0 ≡ G 1 1 0 → F 1 1 1 ≡ G 1 1 1 → (a b c : ℕ) → F a b c ≡ G a b c
   agreeing e000 e001 e010 e011 e100 e101 e110 e111 a b c =
@@ -85,7 +86,7 @@ and-of-xor =
     agreeing (of-and (of-xor of-first of-second) of-third) (of-xor (of-and of-first of-third) (of-and of-second of-third))
     refl refl refl refl refl refl refl refl
 
--- the bits of y where x has bits, and those of z elsewhere, in two spellings
+-- the bits of y where those of x are set, and those of z elsewhere, in two spellings
 pub choice : (x y z : ℕ) → bitXor (bitAnd x (bitXor y z)) z ≡ bitXor (bitAnd x y) (bitXor z (bitAnd x z))
 choice =
     agreeing (of-xor (of-and of-first (of-xor of-second of-third)) of-third)

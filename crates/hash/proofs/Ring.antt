@@ -89,7 +89,7 @@ module _ (C : Core) where
       unfolding rounds
       round-more t e = ap (roundAt C (rounds C whole h t) t) e ∙ ap (rounds C whole h) (sym (add-one t))
 
-      -- a round with the ring's first word leads from round t to t + 1
+      -- while the ring slides, a round with its first word leads from t to t + 1
       pub advance-more : (t : ℕ) → t ≤ slidingRounds C → advance C t (progressAt C h b t) ≡ progressAt C h b (t + 1)
       unfolding advance
       advance-more t l =
@@ -110,10 +110,10 @@ module _ (C : Core) where
           let e : t + n + 1 ≡ t + suc n = omega arith in
           ap (advance C (t + n)) (advanced-add t n (omega arith)) ∙ advance-more (t + n) (omega arith) ∙ ap (progressAt C h b) e
 
-      -- the same of what the code has and makes
-      pub advanced-more : (t n j : ℕ) {s r : List ℕ × List ℕ} → s ≡ progressAt C h b t → r ≡ advanced C t s n → t + n ≡ j
+      -- the same, from what the code has to what it makes
+      pub advanced-code : (t n j : ℕ) {s r : List ℕ × List ℕ} → s ≡ progressAt C h b t → r ≡ advanced C t s n → t + n ≡ j
           → j ≤ slidingRounds C → r ≡ progressAt C h b j
-      advanced-more t n j e f g l =
+      advanced-code t n j e f g l =
           f ∙ ap (λ (s : List ℕ × List ℕ). advanced C t s n) e ∙ advanced-add t n (omega arith) ∙ ap (progressAt C h b) g
 
       -- no round is made yet: the ring holds the words of the block
@@ -132,7 +132,7 @@ module _ (C : Core) where
           ∙ round-more (slidingRounds C + n) (getD-drop (slidingRounds C) whole n 0)
           ∙ ap (rounds C whole h) e
 
-      -- the same of what the code has
-      pub rounds-last : (n : ℕ) {s : List ℕ × List ℕ} → s ≡ progressAt C h b (slidingRounds C)
+      -- the same, from what the code has
+      pub rounds-code : (n : ℕ) {s : List ℕ × List ℕ} → s ≡ progressAt C h b (slidingRounds C)
           → roundsOver C (slidingRounds C) (s .1) (s .0) n ≡ rounds C whole h (slidingRounds C + n)
-      rounds-last n e = ap (λ (s : List ℕ × List ℕ). roundsOver C (slidingRounds C) (s .1) (s .0) n) e ∙ last-over n
+      rounds-code n e = ap (λ (s : List ℕ × List ℕ). roundsOver C (slidingRounds C) (s .1) (s .0) n) e ∙ last-over n

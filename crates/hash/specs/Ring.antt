@@ -1,4 +1,4 @@
--- Private: the rounds of a block over a ring of sixteen words, in which the private functions of the block step state what they promise.
+-- Private: the rounds of a block over a ring of sixteen words, for the contracts of the block step's private functions.
 -- The ring holds the words of the schedule for the next sixteen rounds, the nearest first. Assumes nothing.
 use mathlib.Core.List.{List, [], _∷_, _++_}
 use Prim.Native.Nat.{ℕ, zero, suc, _+_, _-_}

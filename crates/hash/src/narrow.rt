@@ -143,18 +143,21 @@ fn advance(progress: Progress, k: &[u64; 80], t: usize) -> Progress
     ensures { λ r. ⌜ (r .variables, r .ring) ≡ advance narrow t (progress .variables, progress .ring) ⌝ }
 {
     let v = progress.variables;
-    let x = progress.ring;
-    let variables = round_at(v, k, t, x[0]);
-    let ring = slide(x);
-    Progress { variables, ring }
+    let ring = progress.ring;
+    let variables = round_at(v, k, t, ring[0]);
+    let slid = slide(ring);
+    Progress {
+        variables,
+        ring: slid,
+    }
 }
 
 // The eight rounds from t on, each with the ring's first word.
-fn advance_eight(p: Progress, k: &[u64; 80], t: usize) -> Progress
+fn advance_eight(progress: Progress, k: &[u64; 80], t: usize) -> Progress
     requires { ⌜ (t + 8 ≤ 64) × (now k ≡ k64) ⌝ }
-    ensures { λ r. ⌜ (r .variables, r .ring) ≡ advanced narrow t (p .variables, p .ring) 8 ⌝ }
+    ensures { λ r. ⌜ (r .variables, r .ring) ≡ advanced narrow t (progress .variables, progress .ring) 8 ⌝ }
 {
-    let p1 = advance(p, k, t);
+    let p1 = advance(progress, k, t);
     let p2 = advance(p1, k, t + 1);
     let p3 = advance(p2, k, t + 2);
     let p4 = advance(p3, k, t + 3);
@@ -197,7 +200,8 @@ fn word_at(b: &[u8], t: usize) -> u32
     word32(b, WORD * t)
 }
 
-// All sixteen. They are written out, since a loop would keep them in an array beside the ring.
+// The sixteen words of the block that starts the bytes. They are written out, since a loop would keep them in an array beside the
+// ring.
 fn block_words(b: &[u8]) -> [u32; 16]
     requires { ⌜ 64 ≤ length (now b) ⌝ }
     ensures { λ r. ⌜ r ≡ sha.words narrow (now (b .entry)) 16 ⌝ }

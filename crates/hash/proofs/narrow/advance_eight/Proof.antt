@@ -15,7 +15,7 @@ returns c =
     let c2 = c3 .before in
     let c1 = c2 .before in
     let entry = c1 .before .args in
-    advance-eight narrow (entry .t) (entry .p .variables, entry .p .ring) (c1 .advance .ensures) (c2 .advance2 .ensures)
+    advance-eight narrow (entry .t) (entry .progress .variables, entry .progress .ring) (c1 .advance .ensures) (c2 .advance2 .ensures)
     (c3 .advance3 .ensures) (c4 .advance4 .ensures) (c5 .advance5 .ensures) (c6 .advance6 .ensures)
     (c7 .advance7 .ensures) (c .advance8 .ensures)
 

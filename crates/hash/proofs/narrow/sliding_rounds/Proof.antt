@@ -5,7 +5,7 @@ use native.Mathlib.Omega.{arith}
 use denote.Ref.{now}
 use Rattle.hash.specs.Description.{narrow}
 use Rattle.hash.specs.Ring.{progressAt}
-use Rattle.hash.proofs.Ring.{progress-first, advanced-more}
+use Rattle.hash.proofs.Ring.{progress-first, advanced-code}
 use Rattle.hash.proofs.narrow.sliding_rounds.Statement.{statement}
 use Rattle.hash.proofs.narrow.sliding_rounds.Tie as tie
 
@@ -26,7 +26,7 @@ loop-again c =
     let at = c .before .before .loop in
     let entry = c .before .before .before .before .before .args in (
       omega arith,
-      advanced-more narrow (now (entry .b)) (entry .s) (8 * at .i) 8 (8 * (at .i + 1)) (at .inv .1) (c .advance-eight .ensures)
+      advanced-code narrow (now (entry .b)) (entry .s) (8 * at .i) 8 (8 * (at .i + 1)) (at .inv .1) (c .advance-eight .ensures)
           (omega arith) (omega arith),
     )
 

@@ -3,7 +3,7 @@ use mathlib.Core.Path.{_∙_}
 use denote.Ref.{now}
 use borrow.Author.Needs.{needs}
 use Rattle.hash.specs.Description.{wide}
-use Rattle.hash.proofs.Ring.{rounds-last}
+use Rattle.hash.proofs.Ring.{rounds-code}
 use Rattle.hash.proofs.wide.rounds.Statement.{statement}
 use Rattle.hash.proofs.wide.rounds.Tie as tie
 
@@ -11,7 +11,7 @@ returns : tie.Need-returns
 unfolding wide
 returns c =
     let entry = c .before .before .before .args in
-    c .last-rounds .ensures ∙ rounds-last wide (now (entry .b)) (entry .s) 16 (c .before .sliding-rounds .ensures)
+    c .last-rounds .ensures ∙ rounds-code wide (now (entry .b)) (entry .s) 16 (c .before .sliding-rounds .ensures)
 
 pub rounds-spec : {M : Type 1} → statement M
 rounds-spec = tie.close (tie.spec (λ c κs. search needs) (λ c κs. search needs) returns)
