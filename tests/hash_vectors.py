@@ -239,6 +239,10 @@ def message_lines(number, name, message, ways):
         yield f"{head}, {way}: {answer(*taken(number, pieces(message)))}"
 
 
+def pattern(length):
+    return bytes(i % 251 for i in range(length))
+
+
 def messages(number):
     """The published messages, and a fixed pattern at lengths around the edges of a block."""
     yield from message_lines(number, "the empty message", b"", WAYS)
@@ -247,7 +251,7 @@ def messages(number):
     few = [WAYS[0], ("in pieces of 1000", in_pieces(1000))]
     yield from message_lines(number, "a million letters a", b"a" * 1000000, few)
     for length in (0, 1, 55, 56, 63, 64, 65, 111, 112, 119, 120, 127, 128, 129, 255, 256, 257):
-        yield from message_lines(number, "the pattern", bytes(i % 251 for i in range(length)), WAYS)
+        yield from message_lines(number, "the pattern", pattern(length), WAYS)
 
 
 def piece_line(state, piece):
@@ -304,6 +308,32 @@ def own(hash, count):
     return State(hash, range(1, 9), count, bytes(range(1, count % hash.block + 1)))
 
 
+def runs(hash):
+    """Pieces that make whole blocks with what waits, none included: the waiting bytes, the blocks, the bytes left over."""
+    for waiting, blocks, left in [
+        (0, 0, 0),
+        (0, 0, 1),
+        (0, 1, 0),
+        (0, 1, 1),
+        (0, 2, 0),
+        (0, 3, 1),
+        (1, 1, 0),
+        (1, 1, 1),
+        (1, 2, 0),
+        (1, 3, 0),
+        (1, 3, 1),
+        (63, 1, 0),
+        (63, 2, 1),
+        (63, 3, 0),
+    ]:
+        state = own(hash, waiting)
+        yield str(state)
+        line, state = piece_line(state, pattern(blocks * hash.block + left)[waiting:])
+        yield line
+        yield str(state)
+        yield end_line(state)
+
+
 def limit(hash):
     """One byte before the most that may be hashed."""
     state = own(hash, MOST_BYTES - 1)
@@ -347,6 +377,7 @@ def lines():
     yield from starts()
     for number, hash in HASHES.items():
         yield from messages(number)
+        yield from runs(hash)
         yield from states(hash)
         yield from limit(hash)
         yield from sizes(number, hash)

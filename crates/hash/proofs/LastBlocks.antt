@@ -16,13 +16,14 @@ use Rattle.octets.specs.Zeros.Laws.{over-buffer, zeros-length}
 use Rattle.octets.specs.Number.{bytes}
 use Rattle.octets.specs.Number.Laws.{bytes-length, bytes-add, bytes-zero, bytes-last}
 use Rattle.octets.specs.Parts.{part-all, take-pasted, paste-zeros, take-replicate}
-use Rattle.algorithm.specs.Hashes.{sizeOf}
-use Rattle.algorithm.specs.Hashes.Laws.{block-most}
+use Rattle.algorithm.specs.Hashes.{blockOf, sizeOf}
+use Rattle.algorithm.specs.Hashes.Laws.{block-most, block-positive}
 use Rattle.algorithm.specs.Refusals.{mostBytes}
 use Rattle.hash.specs.Description.{Core, describe}
+use Rattle.hash.specs.Run.{Run}
 use Rattle.hash.specs.Sha2.{wordSize, blockSize, fieldSize, zeroCount, lengthField, padding, spell, keep}
 use Rattle.hash.specs.Sha2.Laws.{spell-length}
-use Rattle.hash.specs.Sha2.Padding.{zeros-after, zeros-rest}
+use Rattle.hash.specs.Sha2.Padding.{zeros-after, zeros-rest, ends-at-block}
 use Rattle.hash.specs.Digest.Laws.{described}
 use Rattle.hash.specs.State.{largestBlock, waitingCount, waitingOf, wordsOf, lastWords, endOf}
 use Rattle.hash.specs.State.Open.{end-is}
@@ -113,6 +114,13 @@ last-range s at end ea ee =
     let r = end-range (describe (s .hash) .core) (d .word-least) at (omega arith) in
     let m = block-most (s .hash) in
     (omega arith, omega arith, omega arith)
+
+-- they are a run
+pub last-run : (s : State) (at end : ℕ) (l : List ℕ) → end ≡ paddedEnd (describe (s .hash) .core) at → length l ≡ end → Run (blockOf (s .hash)) l
+last-run s at end l ee el =
+    let d = described (s .hash) in
+    let p = block-positive (s .hash) in
+    ap (λ (n : ℕ). n % blockOf (s .hash)) (el ∙ ee) ∙ (rw (d .block-is) at (ends-at-block (describe (s .hash) .core) (omega arith) at))
 
 -- the words after them
 pub last-words-is : (s : State) (at end : ℕ) (l : List ℕ) → s .count ≤ mostBytes → at ≡ waitingCount s → end ≡ paddedEnd (describe (s .hash) .core) at

@@ -1,4 +1,4 @@
-// The chaining words after the whole blocks of a slice, for either hash. A state holds them as 64-bit numbers.
+// The chaining words after runs of blocks, for either hash. A state holds them as 64-bit numbers.
 use crate::narrow;
 use crate::table::table;
 use crate::wide;
@@ -10,6 +10,9 @@ ghost use mathlib.Core.Bool.{true};
 ghost use Prim.Native.Nat.{_^_};
 ghost use lib.Dec.{ltb};
 ghost use Rattle.octets.specs.Every.{every};
+ghost use Rattle.algorithm.specs.Hashes.{blockOf};
+ghost use Rattle.hash.specs.Table.{k64};
+ghost use Rattle.hash.specs.Run.{Run};
 ghost use Rattle.hash.specs.State.{fit, wordsOf};
 
 // The same words in 32 bits each, which they fit.
@@ -35,19 +38,40 @@ fn widened(words: [u32; 8]) -> [u64; 8]
     out
 }
 
-// The chaining words after every whole block of the bytes. The table is named here, once, and lent to all blocks.
-pub(crate) fn words_after(hash: Hash, words: [u64; 8], bytes: &[u8]) -> [u64; 8]
-    requires { ⌜ fit hash words ≡ true ⌝ }
-    ensures { λ r. ⌜ r ≡ wordsOf hash words (now (bytes .entry)) ⌝ }
+// The chaining words after a run, by the width of the hash's words; `k` is the table, lent by the caller.
+fn after_run(hash: Hash, words: [u64; 8], run: &[u8], k: &[u64; 80]) -> [u64; 8]
+    requires { ⌜ (fit hash words ≡ true) × (Run (blockOf hash) (now run)) × (now k ≡ k64) ⌝ }
+    ensures { λ r. ⌜ r ≡ wordsOf hash words (now (run .entry)) ⌝ }
 {
-    let k = table();
     let width = width_of(hash);
     match width {
         Width::Narrow => {
             let start = narrowed(words);
-            let end = narrow::after_blocks(start, bytes, &k);
+            let end = narrow::after_run(start, run, k);
             widened(end)
         }
-        Width::Wide => wide::after_blocks(words, bytes, &k),
+        Width::Wide => wide::after_run(words, run, k),
     }
+}
+
+// The chaining words after two runs, one after the other; either may be of no blocks. The table is named here, once, and lent to all
+// blocks. The runs are taken by a loop, so that the block step has one caller and is compiled into it, beside the table.
+pub(crate) fn words_after<'a>(
+    hash: Hash,
+    words: [u64; 8],
+    first: &'a [u8],
+    second: &'a [u8],
+) -> [u64; 8]
+    requires { ⌜ (fit hash words ≡ true) × (Run (blockOf hash) (now first)) × (Run (blockOf hash) (now second)) ⌝ }
+    ensures { λ r. ⌜ r ≡ wordsOf hash (wordsOf hash words (now (first .entry))) (now (second .entry)) ⌝ }
+{
+    let k = table();
+    let mut v = words;
+    let mut run = first;
+    for _ in 0..2usize {
+        let n = after_run(hash, v, run, &k);
+        v = n;
+        run = second;
+    }
+    v
 }

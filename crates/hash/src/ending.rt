@@ -2,13 +2,13 @@
 ghost use mathlib.Core.Path.{_≡_};
 ghost use mathlib.Core.List.{_++_, _∷_};
 ghost use Prim.Native.Nat.{_+_, _-_, _*_, _≤_, _<_};
-ghost use lib.ListN.{take, replicate};
+ghost use lib.ListN.{length, take, replicate};
 ghost use Rattle.octets.specs.Number.{bytes};
 ghost use Rattle.octets.specs.Zeros.{zerosTo};
 ghost use Rattle.algorithm.specs.Hashes.{blockOf};
 ghost use Rattle.hash.specs.Description.{describe};
 ghost use Rattle.hash.specs.Sha2.{wordSize, spell};
-ghost use Rattle.hash.specs.State.{largestBlock, lastWords};
+ghost use Rattle.hash.specs.State.{lastWords};
 ghost use Rattle.hash.specs.Calls.{FinishOutcome};
 ghost use Rattle.hash.specs.Inside.{paddedEnd, Ends};
 use crate::narrow;
@@ -43,25 +43,21 @@ fn padded_end(hash: Hash, at: usize) -> usize
     2 * size
 }
 
-// The waiting bytes with the padding after them, up to `end`. The length is below 2^64, so its last eight bytes say it all.
-fn last_blocks(
-    waiting: [u8; LARGEST_BLOCK],
-    at: usize,
-    end: usize,
-    bits: u64,
-) -> [u8; 2 * LARGEST_BLOCK]
-    requires { ⌜ (at ≤ largestBlock) × (at + 9 ≤ end) × (end ≤ 256) ⌝ }
-    ensures { λ r. ⌜ take end r ≡ take at waiting ++ (0x80 ∷ replicate (end - (at + 9)) 0 ++ bytes 8 bits) ⌝ }
+// Writes the waiting bytes with the padding after them, up to `end`, into zeros. The length is below 2^64, so its last eight bytes say
+// it all.
+fn put_last_blocks(last: &mut [u8; 2 * LARGEST_BLOCK], waiting: &[u8], end: usize, bits: u64)
+    requires { ⌜ (now last ≡ replicate 256 0) × (length (now waiting) + 9 ≤ end) × (end ≤ 256) ⌝ }
+    ensures { λ _. ⌜ length (now (last .exit)) ≡ 256 ⌝ }
+    ensures { λ _. ⌜ take end (now (last .exit)) ≡ now (waiting .entry) ++ (0x80 ∷ replicate (end - (length (now (waiting .entry)) + 9)) 0 ++ bytes 8 bits) ⌝ }
 {
-    let mut last = [0u8; 2 * LARGEST_BLOCK];
-    crate::place::put_at(&mut last, 0, &waiting[..at]);
+    let at = waiting.len();
+    crate::place::put_at(last, 0, waiting);
     last[at] = 0x80;
     let field = octets::eight_bytes(bits);
-    crate::place::put_at(&mut last, end - 8, &field);
-    last
+    crate::place::put_at(last, end - 8, &field);
 }
 
-// The words after the padded rest.
+// The words after the padded rest, which is a run.
 fn last_words(state: State) -> [u64; 8]
     requires { ⌜ Ends state ⌝ }
     ensures { λ r. ⌜ r ≡ lastWords state ⌝ }
@@ -71,9 +67,10 @@ fn last_words(state: State) -> [u64; 8]
     let end = padded_end(hash, at);
     let count = state.count;
     let waiting = state.waiting;
-    let last = last_blocks(waiting, at, end, 8 * count);
+    let mut last = [0u8; 2 * LARGEST_BLOCK];
+    put_last_blocks(&mut last, &waiting[..at], end, 8 * count);
     let words = state.words;
-    crate::blocks::words_after(hash, words, &last[..end])
+    crate::blocks::words_after(hash, words, &last[..end], b"")
 }
 
 // The bytes of the words, with zeros after them.

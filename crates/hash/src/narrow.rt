@@ -1,14 +1,16 @@
-// The block step on words of 32 bits (FIPS 180-4, sections 4.1.2 and 6.2.2), and the words after all whole blocks of a slice.
+// The block step on words of 32 bits (FIPS 180-4, sections 4.1.2 and 6.2.2), and the words after a run of blocks.
 use crate::table::upper;
 use crate::words::word32;
 use std::num::wrapping_add_u32 as add;
 ghost use mathlib.Core.Path.{_≡_};
+ghost use mathlib.Core.List.{foldl};
 ghost use Prim.Native.Nat.{_+_, _<_, _≤_};
 ghost use lib.ListN.{length};
 ghost use Rattle.hash.specs.Word.{rotr, ch, maj};
 ghost use Rattle.hash.specs.Table.{k64};
 ghost use Rattle.hash.specs.Description.{narrow};
-ghost use Rattle.hash.specs.Blocks.{wordsAfter};
+ghost use Rattle.hash.specs.Blocks.{wholeBlocks};
+ghost use Rattle.hash.specs.Run.{Run};
 ghost use Rattle.hash.specs.Ring.{roundAt, roundsOver, slide, advance, advanced, progressAt};
 ghost use Rattle.hash.specs.Sha2 as sha;
 
@@ -267,16 +269,17 @@ fn step(s: [u32; 8], b: &[u8], k: &[u64; 80]) -> [u32; 8]
     sums(s, v)
 }
 
-// The chaining words after every whole block of the bytes, each read where it stands; `k` is the table, lent by the caller.
-pub(crate) fn after_blocks(words: [u32; 8], bytes: &[u8], k: &[u64; 80]) -> [u32; 8]
-    requires { ⌜ now k ≡ k64 ⌝ }
-    ensures { λ r. ⌜ r ≡ wordsAfter (sha.blockSize narrow) (sha.step narrow) words (now (bytes .entry)) ⌝ }
+// The chaining words after every block of a run, each read where it stands; `k` is the table, lent by the caller. A run has no ragged
+// end, so where a byte is left, a block is.
+pub(crate) fn after_run(words: [u32; 8], run: &[u8], k: &[u64; 80]) -> [u32; 8]
+    requires { ⌜ (Run (sha.blockSize narrow) (now run)) × (now k ≡ k64) ⌝ }
+    ensures { λ r. ⌜ r ≡ foldl (sha.step narrow) words (wholeBlocks (sha.blockSize narrow) (now (run .entry))) ⌝ }
 {
     let mut v = words;
     let mut at: usize = 0;
-    while BLOCK <= bytes.len() - at {
+    while 0 < run.len() - at {
         let end = at + BLOCK;
-        let n = step(v, &bytes[at..end], k);
+        let n = step(v, &run[at..end], k);
         v = n;
         at = end;
     }

@@ -7,7 +7,8 @@ ghost use Prim.Native.Nat.{_+_, _≤_, _<_};
 ghost use lib.ListN.{length, take};
 ghost use lib.Seq.{paste};
 ghost use Rattle.algorithm.specs.Refusals.{mostBytes};
-ghost use Rattle.hash.specs.Blocks.{leftOver};
+ghost use Rattle.algorithm.specs.Hashes.{blockOf};
+ghost use Rattle.hash.specs.Run.{Run};
 ghost use Rattle.hash.specs.State.{largestBlock, fit, wordsOf, placed, afterOf};
 ghost use Rattle.hash.specs.Calls.{UpdateOutcome};
 ghost use Rattle.hash.specs.Inside.{withWaiting, onwardOf, Takes, Fills};
@@ -30,62 +31,46 @@ fn appended(state: State, at: usize, piece: &[u8]) -> State
     next
 }
 
-// What is left after the last whole block, with zeros after it.
-fn left_over(size: usize, bytes: &[u8]) -> [u8; LARGEST_BLOCK]
-    requires { ⌜ (0 < size) × (size ≤ largestBlock) ⌝ }
-    ensures { λ r. ⌜ r ≡ placed (leftOver size (now (bytes .entry))) ⌝ }
+// Bytes with zeros after them, as they wait.
+fn placed(bytes: &[u8]) -> [u8; LARGEST_BLOCK]
+    requires { ⌜ length (now bytes) ≤ largestBlock ⌝ }
+    ensures { λ r. ⌜ r ≡ placed (now (bytes .entry)) ⌝ }
 {
-    let from = bytes.len() - bytes.len() % size;
     let mut waiting = [0u8; LARGEST_BLOCK];
-    crate::place::put_at(&mut waiting, 0, &bytes[from..]);
+    crate::place::put_at(&mut waiting, 0, bytes);
     waiting
 }
 
-// The words after the block that the waiting bytes and the first bytes of a piece make.
-fn topped_up(
-    hash: Hash,
-    words: [u64; 8],
-    waiting: [u8; LARGEST_BLOCK],
-    at: usize,
-    bytes: &[u8],
-) -> [u64; 8]
-    requires { ⌜ at + length (now bytes) ≤ largestBlock ⌝ }
-    requires { ⌜ fit hash words ≡ true ⌝ }
-    ensures { λ r. ⌜ r ≡ wordsOf hash words (take at waiting ++ now (bytes .entry)) ⌝ }
-{
-    let mut block = waiting;
-    crate::place::put_at(&mut block, at, bytes);
-    let end = at + bytes.len();
-    crate::blocks::words_after(hash, words, &block[..end])
-}
-
-// The state that goes on from these words with bytes where nothing waits, at this count.
-fn onward(hash: Hash, words: [u64; 8], count: u64, bytes: &[u8]) -> State
-    requires { ⌜ fit hash words ≡ true ⌝ }
-    ensures { λ r. ⌜ r ≡ onwardOf hash words count (now (bytes .entry)) ⌝ }
+// The state that goes on from these words with a run, and then with bytes where nothing waits, at this count: their whole blocks are a
+// run too, and what is left waits.
+fn onward<'a>(hash: Hash, words: [u64; 8], count: u64, run: &'a [u8], bytes: &'a [u8]) -> State
+    requires { ⌜ (fit hash words ≡ true) × (Run (blockOf hash) (now run)) ⌝ }
+    ensures { λ r. ⌜ r ≡ onwardOf hash (wordsOf hash words (now (run .entry))) count (now (bytes .entry)) ⌝ }
 {
     let size = algorithm::block_size(hash);
-    let after = crate::blocks::words_after(hash, words, bytes);
-    let left = left_over(size, bytes);
+    let cut = bytes.len() - bytes.len() % size;
+    let after = crate::blocks::words_after(hash, words, run, &bytes[..cut]);
+    let waiting = placed(&bytes[cut..]);
     State {
         hash,
         words: after,
         count,
-        waiting: left,
+        waiting,
     }
 }
 
-// The state after a piece that fills the block that waits, of which it takes the first `room` bytes.
+// The state after a piece that fills the block that waits, of which it takes the first `room` bytes: that block is a run.
 fn filled(state: State, at: usize, room: usize, piece: &[u8]) -> State
     requires { ⌜ Fills state at room (now piece) ⌝ }
     ensures { λ r. ⌜ r ≡ afterOf state (now (piece .entry)) ⌝ }
 {
     let hash = state.hash;
     let words = state.words;
-    let waiting = state.waiting;
-    let topped = topped_up(hash, words, waiting, at, &piece[..room]);
+    let mut block = state.waiting;
+    crate::place::put_at(&mut block, at, &piece[..room]);
+    let end = at + room;
     let count = state.count + piece.len() as u64;
-    onward(hash, topped, count, &piece[room..])
+    onward(hash, words, count, &block[..end], &piece[room..])
 }
 
 // The state after a piece that is taken.
@@ -103,7 +88,7 @@ fn taken(state: State, piece: &[u8]) -> State
     if at == 0 {
         let words = state.words;
         let count = state.count + piece.len() as u64;
-        return onward(hash, words, count, piece);
+        return onward(hash, words, count, b"", piece);
     }
     filled(state, at, room, piece)
 }

@@ -2,6 +2,7 @@
 mod calls;
 mod edges;
 mod messages;
+mod runs;
 mod ways;
 
 pub(crate) fn run() {
@@ -10,6 +11,7 @@ pub(crate) fn run() {
         messages::published(number);
         messages::million(number);
         messages::lengths(number);
+        runs::all(number);
         edges::states(number);
         edges::limit(number);
         edges::sizes(number);

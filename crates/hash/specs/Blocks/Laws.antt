@@ -1,13 +1,14 @@
 -- Proved: laws of bytes cut into blocks, over the size of a block and the step. Assumes nothing.
 use mathlib.Core.Path.{_≡_, refl, sym, ap, _∙_}
-use mathlib.Core.List.{List, [], _∷_, _++_, append-assoc, foldl, foldl-append, flatten}
+use mathlib.Core.List.{List, [], _∷_, _++_, foldl, foldl-append, flatten}
 use Prim.Native.Nat.{ℕ, zero, suc, _+_, _-_, _*_, _/_, _%_, _≤_, _<_}
-use native.Mathlib.Nat.{zero-add, zero-mul, suc-add, one-mul, add-mul, div-self, div-eq-of-lt, div-eq-sub-div, div-mul-le-self, mod-eq-sub-div-mul, mul-add-div-right, mod-lt, div-add-mod'}
+use native.Mathlib.Nat.{zero-add, zero-mul, suc-add, add-mul, div-eq-of-lt, div-eq-sub-div, div-mul-le-self, mod-eq-sub-div-mul, mul-add-div-right, mul-mod-left, mod-lt, div-add-mod'}
 use native.Mathlib.Numerals.{add-one}
 use native.Mathlib.Omega.{arith}
 use lib.ListN.{length, take, drop, length-append, length-drop, drop-of-length-le, take-append-drop}
 use lib.Seq.{take-append-le, drop-append-le, drop-drop, take-length, take-add, length-take-le}
 use Rattle.octets.specs.Parts.{part-all}
+use Rattle.hash.specs.Run.{Run}
 use Rattle.hash.specs.Blocks.Sized.{none, more}
 use Rattle.hash.specs.Blocks.{Sized, firstBlocks, wholeBlocks, leftOver, wordsAfter}
 
@@ -50,7 +51,7 @@ module _ (B : ℕ) where
       ∙ sym (take-add B (n * B) l)
       ∙ ap (λ (k : ℕ). take k l) e
 
-  -- how many whole blocks there are, each of B bytes; bytes that the blocks fill are the blocks joined
+  -- how many whole blocks there are, each of B bytes; those of a run, joined, are the run
   pub whole-length : (l : List ℕ) → length (wholeBlocks B l) ≡ length l / B
   unfolding wholeBlocks
   whole-length l = first-length (length l / B) l
@@ -59,9 +60,11 @@ module _ (B : ℕ) where
   unfolding wholeBlocks
   whole-sized l = first-sized (length l / B) l (div-mul-le-self (length l) B)
 
-  pub whole-flat : (l : List ℕ) → length l / B * B ≡ length l → flatten (wholeBlocks B l) ≡ l
+  pub whole-flat : (l : List ℕ) → Run B l → flatten (wholeBlocks B l) ≡ l
   unfolding wholeBlocks
-  whole-flat l h = first-flat (length l / B) l ∙ ap (λ (k : ℕ). take k l) h ∙ take-length l
+  whole-flat l r =
+      let e : length l / B * B ≡ length l = omega (arith, div-add-mod' (length l) B) in
+      first-flat (length l / B) l ∙ ap (λ (k : ℕ). take k l) e ∙ take-length l
 
   -- what is left: its length, and two cases
   pub left-length : (l : List ℕ) → length (leftOver B l) ≡ length l % B
@@ -72,21 +75,24 @@ module _ (B : ℕ) where
   unfolding leftOver
   left-short l h = ap (λ (k : ℕ). drop (k * B) l) (div-eq-of-lt h) ∙ ap (λ (k : ℕ). drop k l) (zero-mul B)
 
-  pub left-block : (l : List ℕ) → 0 < B → length l ≡ B → leftOver B l ≡ []
+  pub left-run : (l : List ℕ) → Run B l → leftOver B l ≡ []
   unfolding leftOver
-  left-block l p e =
-      let q : length l / B ≡ 1 = ap (λ (k : ℕ). k / B) e ∙ div-self p in
-      drop-of-length-le l {i = length l / B * B} (rw (q, one-mul) (omega arith))
+  left-run l r = drop-of-length-le l {i = length l / B * B} (omega (arith, div-add-mod' (length l) B))
 
   pub left-less : (l : List ℕ) → 0 < B → length (leftOver B l) < B
   left-less l p = omega (arith, left-length l, mod-lt (length l) p)
 
-  -- as a loan of the part after the whole blocks has it
+  -- where the whole blocks end: before them stands a run, and after them what is left, as a loan of that part has it
+  cut-is : (l : List ℕ) → length l - length l % B ≡ length l / B * B
+  cut-is l = omega (arith, div-add-mod' (length l) B)
+
+  pub cut-run : (l : List ℕ) → Run B (take (length l - length l % B) l)
+  cut-run l =
+      ap (λ (n : ℕ). n % B) (length-take-le (length l - length l % B) l (omega arith) ∙ cut-is l) ∙ mul-mod-left (length l / B) B
+
   pub left-part : (l : List ℕ) → take (length l - (length l - length l % B)) (drop (length l - length l % B) l) ≡ leftOver B l
   unfolding leftOver
-  left-part l =
-      let e : length l - length l % B ≡ length l / B * B = omega (arith, div-add-mod' (length l) B) in
-      part-all l (length l) (length l - length l % B) refl ∙ ap (λ (k : ℕ). drop k l) e
+  left-part l = part-all l (length l) (length l - length l % B) refl ∙ ap (λ (k : ℕ). drop k l) (cut-is l)
 
   -- bytes cut anywhere have the whole blocks of the first part, then those of what it leaves with the second
   module _ (a b : List ℕ) (p : 0 < B) where
@@ -122,14 +128,9 @@ module _ (B : ℕ) where
         ∙ sym (drop-drop (m * B) (n * B) (a ++ b))
         ∙ ap (λ (x : List ℕ). drop (m * B) x) (drop-append-le (n * B) a b le)
 
-  cut-front : (a p : List ℕ) (room : ℕ) → a ++ p ≡ (a ++ take room p) ++ drop room p
-  cut-front a p room = ap (λ (r : List ℕ). a ++ r) (sym (take-append-drop room p)) ∙ sym (append-assoc a (take room p) (drop room p))
-
-  pub left-filled : (a p : List ℕ) (room : ℕ) → 0 < B → length (a ++ take room p) ≡ B → leftOver B (a ++ p) ≡ leftOver B (drop room p)
-  left-filled a p room z l =
-      ap (leftOver B) (cut-front a p room)
-      ∙ left-append (a ++ take room p) (drop room p) z
-      ∙ ap (λ (r : List ℕ). leftOver B (r ++ drop room p)) (left-block (a ++ take room p) z l)
+  -- a run leaves nothing over, so that what comes after it begins a block
+  pub left-after-run : (a b : List ℕ) → 0 < B → Run B a → leftOver B (a ++ b) ≡ leftOver B b
+  left-after-run a b p r = left-append a b p ∙ ap (λ (l : List ℕ). leftOver B (l ++ b)) (left-run a r)
 
   module _ (step : List ℕ → List ℕ → List ℕ) where
     -- bytes that fill no block
@@ -152,10 +153,15 @@ module _ (B : ℕ) where
     words-append ws a b p =
         ap (foldl step ws) (whole-append a b p) ∙ foldl-append step ws (wholeBlocks B a) (wholeBlocks B (leftOver B a ++ b))
 
-    -- a piece whose first bytes fill the block that a begins: that block first, then the rest
-    pub words-filled : (ws a p : List ℕ) (room : ℕ) → 0 < B → length (a ++ take room p) ≡ B
-        → wordsAfter B step ws (a ++ p) ≡ wordsAfter B step (wordsAfter B step ws (a ++ take room p)) (drop room p)
-    words-filled ws a p room z l =
-        ap (wordsAfter B step ws) (cut-front a p room)
-        ∙ words-append ws (a ++ take room p) (drop room p) z
-        ∙ ap (λ (r : List ℕ). wordsAfter B step (wordsAfter B step ws (a ++ take room p)) (r ++ drop room p)) (left-block (a ++ take room p) z l)
+    -- a run, and then what comes after it
+    pub words-after-run : (ws a b : List ℕ) → 0 < B → Run B a → wordsAfter B step ws (a ++ b) ≡ wordsAfter B step (wordsAfter B step ws a) b
+    words-after-run ws a b p r = words-append ws a b p ∙ ap (λ (l : List ℕ). wordsAfter B step (wordsAfter B step ws a) (l ++ b)) (left-run a r)
+
+    -- the run that ends where the whole blocks end leads to the same words as all of the bytes
+    pub words-cut : (ws l : List ℕ) → 0 < B → wordsAfter B step ws (take (length l - length l % B) l) ≡ wordsAfter B step ws l
+    words-cut ws l p =
+        let n : ℕ = length l - length l % B in
+        let short : length (drop n l) < B = rw length-drop (omega (arith, mod-lt (length l) p)) in
+        sym (words-short (wordsAfter B step ws (take n l)) (drop n l) short)
+        ∙ sym (words-after-run ws (take n l) (drop n l) p (cut-run l))
+        ∙ ap (wordsAfter B step ws) (take-append-drop n l)

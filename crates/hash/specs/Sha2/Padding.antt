@@ -115,10 +115,7 @@ module _ (C : Core) (positive : 0 < blockSize C) where
     pub blocks-joined : flatten (blocks C m) ≡ m ++ padding C (length m)
     unfolding blocks
     blocks-joined =
-        let B : ℕ = blockSize C in
-        let n : ℕ = length (m ++ padding C (length m)) in
-        let z : n % B ≡ 0 = ap (λ (k : ℕ). k % B) padded-length ∙ ends-at-block (length m) in
-        whole-flat B (m ++ padding C (length m)) (omega (arith, div-add-mod' n B))
+        whole-flat (blockSize C) (m ++ padding C (length m)) (ap (λ (k : ℕ). k % blockSize C) padded-length ∙ ends-at-block (length m))
 
   -- padding is injective: no two messages have the same padded blocks
   pub blocks-injective : (m n : List ℕ) → blocks C m ≡ blocks C n → m ≡ n

@@ -1,11 +1,12 @@
 -- Proved: work in pieces opened, for this crate's own proofs alone: the definitions as the code goes. Assumes nothing.
 use mathlib.Core.Path.{_≡_, refl, ap, _∙_}
 use mathlib.Core.Bool.{true, false}
-use mathlib.Core.List.{List, [], _++_}
-use Prim.Native.Nat.{ℕ, _+_, _-_, _≤_, _<_}
+use mathlib.Core.List.{List, [], _++_, append-assoc}
+use Prim.Native.Nat.{ℕ, _+_, _-_, _%_, _≤_, _<_}
+use native.Mathlib.Nat.{mod-self}
 use native.Mathlib.Omega.{arith}
 use lib.Dec.{eqb}
-use lib.ListN.{length, take, drop, replicate, length-append, length-drop}
+use lib.ListN.{length, take, drop, replicate, length-append, length-drop, take-append-drop}
 use lib.Seq.{take-length, drop-drop, length-take-le, paste}
 use borrow.Author.Tests.{le-leb, lt-leb}
 use Rattle.algorithm.specs.Hashes.Laws.{block-positive}
@@ -17,7 +18,8 @@ use Rattle.algorithm.specs.declared.hashes.Hash.the-variants.{Sha256}
 use Rattle.algorithm.specs.Hashes.{blockOf}
 use Rattle.algorithm.specs.Refusals.{mostBytes}
 use Rattle.hash.specs.Description.{describe}
-use Rattle.hash.specs.Blocks.Laws.{left-short, words-short, left-filled, words-filled}
+use Rattle.hash.specs.Blocks.Laws.{left-short, left-after-run, words-short, words-after-run}
+use Rattle.hash.specs.Run.{Run}
 use Rattle.hash.specs.Sha2.{step, keep}
 use Rattle.hash.specs.State.{largestBlock, waitingCount, waitingOf, fit, wordsOf, lastWords, soundOf, freshOf, zeroState, afterOf, endOf}
 use Rattle.hash.specs.State.Laws.{waiting-length, sound-zeros}
@@ -86,5 +88,9 @@ filled-after s at room p topped l h et =
     let n : length (waitingOf s ++ take room p) ≡ B =
     omega (arith, length-append (waitingOf s) (take room p), waiting-length s l, length-take-le room p (h .within), h .fills, h .waits)
     in
+    let r : Run B (waitingOf s ++ take room p) = ap (λ (k : ℕ). k % B) n ∙ mod-self B in
     let t : topped ≡ wordsOf (s .hash) (s .words) (waitingOf s ++ take room p) = rw (h .waits) at et in
-    rw (d, t, ← words-filled B (step (describe (s .hash) .core)) (s .words) (waitingOf s) p room (block-positive (s .hash)) n, ← left-filled B (waitingOf s) p room (block-positive (s .hash)) n)
+    let e : (waitingOf s ++ take room p) ++ drop room p ≡ waitingOf s ++ p =
+    append-assoc (waitingOf s) (take room p) (drop room p) ∙ ap (λ (l : List ℕ). waitingOf s ++ l) (take-append-drop room p)
+    in
+    rw (d, t, ← e, words-after-run B (step (describe (s .hash) .core)) (s .words) (waitingOf s ++ take room p) (drop room p) (block-positive (s .hash)) r, left-after-run B (waitingOf s ++ take room p) (drop room p) (block-positive (s .hash)) r)

@@ -93,12 +93,14 @@ const LENGTHS: [usize; 17] = [
     257,
 ];
 
-// A fixed pattern: the byte at a place is the place modulo 251.
-fn pattern() -> [u8; 257]
-    ensures { λ r. ⌜ 257 ≡ length r ⌝ }
+// A fixed pattern: the byte at a place is the place modulo 251. It has one byte more than the three largest blocks.
+pub(crate) const PATTERN: usize = 385;
+
+pub(crate) fn pattern() -> [u8; PATTERN]
+    ensures { λ r. ⌜ 385 ≡ length r ⌝ }
 {
-    let mut bytes = [0u8; 257];
-    for i in 0..257 {
+    let mut bytes = [0u8; PATTERN];
+    for i in 0..PATTERN {
         bytes[i] = (i % 251) as u8;
     }
     bytes
@@ -112,7 +114,7 @@ pub(crate) fn lengths(hash_number: u32) {
 
 fn of_length(hash_number: u32, n: usize) {
     let bytes = pattern();
-    if n <= 257 {
+    if n <= PATTERN {
         each(hash_number, b"the pattern", &bytes[0..n]);
     }
 }

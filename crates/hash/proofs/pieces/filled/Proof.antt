@@ -1,43 +1,81 @@
 -- `hash::pieces::filled`: the block that the piece tops up, and what comes after it. Assumes nothing.
-use mathlib.Core.Path.{_≡_, sym, _∙_}
+use mathlib.Core.Path.{_≡_, sym, ap, _∙_}
+use mathlib.Core.List.{_++_}
+use Prim.Native.Nat.{ℕ, _+_, _%_}
+use native.Mathlib.Nat.{mod-self}
 use native.Mathlib.Omega.{arith}
-use lib.ListN.{length, length-map}
+use lib.ListN.{length, length-map, take}
 use lib.Seq.{length-take-le}
 use borrow.Author.Needs.{needs}
 use denote.Ref.{now}
+use Rattle.octets.specs.Parts.{take-pasted}
+use Rattle.algorithm.specs.Hashes.{blockOf}
 use Rattle.algorithm.specs.Hashes.Laws.{block-most}
-use Rattle.hash.specs.State.Laws.{words-fit}
+use Rattle.hash.specs.State.{wordsOf}
 use Rattle.hash.specs.State.Open.{filled-after}
 use Rattle.hash.proofs.pieces.filled.Statement.{statement}
 use Rattle.hash.proofs.pieces.filled.Tie as tie
 
-slice-aggregate-topped-up : tie.Need-slice-aggregate-topped-up
-slice-aggregate-topped-up c =
-    let start = c .before .before .before .before in
+slice-aggregate-put-at-2 : tie.Need-slice-aggregate-put-at-2
+slice-aggregate-put-at-2 c =
+    let start = c .before .before .before .before .before in
     sym (length-take-le (start .args .room) (now (start .args .piece)) (start .pre .within))
 
-topped-up-requires : tie.Need-topped-up-requires
-topped-up-requires c κs =
-    let start = c .before .before .before .before in
+put-at-requires : tie.Need-put-at-requires
+put-at-requires c κs =
+    let start = c .before .before .before .before .before in
+    let s = start .args .state in
+    let w : length (s .waiting) ≡ 128 = sym (length-map (s .waiting) (λ v. v)) ∙ start .good .0 .1 .1 .1 .1 .1 .0 .1 .0 .1 in
     let l = length-take-le (start .args .room) (now (start .args .piece)) (start .pre .within) in
-    (omega (arith, block-most (start .args .state .hash), start .pre .fills), start .pre .words)
+    omega (arith, block-most (s .hash), start .pre .fills)
+
+add-end : tie.Need-add-end
+add-end c =
+    let start = c .before .before .before .before .before .before .before in
+    omega (arith, block-most (start .args .state .hash), start .pre .fills)
+
+array-share-prefix-block : tie.Need-array-share-prefix-block
+array-share-prefix-block c =
+    let start = c .before .before .before .before .before .before .before .before in
+    let s = start .args .state in
+    let w : length (s .waiting) ≡ 128 = sym (length-map (s .waiting) (λ v. v)) ∙ start .good .0 .1 .1 .1 .1 .1 .0 .1 .0 .1 in
+    omega (arith, block-most (s .hash), start .pre .fills, c .before .before .put-at .kept .0)
+
+slice-aggregate-onward : tie.Need-slice-aggregate-onward
+slice-aggregate-onward c =
+    let start = c .before .before .before .before .before .before .before .before .before in
+    let s = start .args .state in
+    let w : length (s .waiting) ≡ 128 = sym (length-map (s .waiting) (λ v. v)) ∙ start .good .0 .1 .1 .1 .1 .1 .0 .1 .0 .1 in
+    sym (length-take-le _ _ (omega (arith, block-most (s .hash), start .pre .fills, c .before .before .before .put-at .kept .0)))
 
 onward-requires : tie.Need-onward-requires
 onward-requires c κs =
-    let start = c .before .before .before .before .before .before .before in
-    rw (c .before .before .topped-up .ensures) (words-fit (start .args .state .hash) (start .args .state .words) _ (start .pre .words))
+    let start = c .before .before .before .before .before .before .before .before .before .before in
+    let s = start .args .state in
+    let block = c .before .before .before .before .put-at in
+    let w : length (s .waiting) ≡ 128 = sym (length-map (s .waiting) (λ v. v)) ∙ start .good .0 .1 .1 .1 .1 .1 .0 .1 .0 .1 in
+    let l = length-take-le (start .args .at + start .args .room) (block .last .0) (omega (arith, block-most (s .hash), start .pre .fills, block .kept .0)) in
+    (start .pre .words, ap (λ (n : ℕ). n % blockOf (s .hash)) (l ∙ start .pre .fills) ∙ mod-self (blockOf (s .hash)))
 
 returns : tie.Need-returns
 returns c =
-    let start = c .before .before .before .before .before .before .before .before in
+    let start = c .before .before .before .before .before .before .before .before .before .before .before in
     let s = start .args .state in
-    let topped = c .before .before .before .topped-up in
+    let at = start .args .at in
+    let room = start .args .room in
+    let piece = now (start .args .piece) in
+    let block = c .before .before .before .before .before .put-at in
     let w : length (s .waiting) ≡ 128 = sym (length-map (s .waiting) (λ v. v)) ∙ start .good .0 .1 .1 .1 .1 .1 .0 .1 .0 .1 in
+    let l = length-take-le room piece (start .pre .within) in
+    let p = take-pasted (s .waiting) at (take room piece) (omega (arith, block-most (s .hash), start .pre .fills)) in
+    let e : take (at + room) (block .last .0) ≡ take at (s .waiting) ++ take room piece =
+    ap (λ (n : ℕ). take (at + n) (block .last .0)) (sym l) ∙ ap (take (at + length (take room piece))) (block .ensures) ∙ p
+    in
     c .onward .ensures
-    ∙ filled-after s (start .args .at) (start .args .room) (now (start .args .piece)) (topped .result) w (start .pre) (topped .ensures)
+    ∙ filled-after s at room piece (wordsOf (s .hash) (s .words) (take (at + room) (block .last .0))) w (start .pre) (ap (wordsOf (s .hash) (s .words)) e)
 
 pub filled-spec : {M : Type 1} → statement M
 filled-spec =
     tie.close
-    (tie.spec slice-aggregate-topped-up topped-up-requires (λ c. search needs) (λ c. search needs) (λ c. search needs) (λ c. search needs)
-    onward-requires returns)
+    (tie.spec (λ c. search needs) slice-aggregate-put-at-2 put-at-requires add-end (λ c. search needs) array-share-prefix-block slice-aggregate-onward
+    (λ c. search needs) (λ c. search needs) (λ c. search needs) onward-requires returns)

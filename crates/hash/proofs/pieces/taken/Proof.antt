@@ -1,10 +1,18 @@
 -- `hash::pieces::taken`: a piece fills a block or it does not. Assumes nothing.
-use mathlib.Core.Path.{_≡_, sym, _∙_}
+use mathlib.Core.Path.{_≡_, sym, ap, _∙_}
+use mathlib.Core.List.{List, []}
+use Prim.Native.Nat.{ℕ, _+_}
+use native.Mathlib.Nat.{zero-mod}
 use native.Mathlib.Omega.{arith}
 use lib.ListN.{length, length-map}
 use borrow.Author.Needs.{needs}
 use denote.Ref.{now}
-use Rattle.algorithm.specs.Hashes.Laws.{block-most}
+use Rattle.algorithm.specs.Hashes.{blockOf}
+use Rattle.algorithm.specs.Hashes.Laws.{block-most, block-positive}
+use Rattle.hash.specs.Description.{describe}
+use Rattle.hash.specs.Blocks.Laws.{words-short}
+use Rattle.hash.specs.Sha2.{step}
+use Rattle.hash.specs.Inside.{onwardOf}
 use Rattle.hash.specs.State.Laws.{waiting-less, sound-words}
 use Rattle.hash.specs.State.Open.{appended-after, straight-after}
 use Rattle.hash.proofs.pieces.taken.Statement.{statement}
@@ -31,14 +39,18 @@ returns c =
 
 onward-requires : tie.Need-onward-requires
 onward-requires c κs =
-    let start = c .before .before .before .before .before .before .before in
-    sound-words (start .args .state) (start .pre .sound)
+    let start = c .before .before .before .before .before .before .before .before in
+    (sound-words (start .args .state) (start .pre .sound), zero-mod (blockOf (start .args .state .hash)))
 
 returns-2 : tie.Need-returns-2
 returns-2 c =
-    let start = c .before .before .before .before .before .before .before .before in
+    let start = c .before .before .before .before .before .before .before .before .before in
+    let s = start .args .state in
+    let piece = now (start .args .piece) in
     c .onward .ensures
-    ∙ straight-after (start .args .state) (now (start .args .piece)) (sym (c .before .before .before .before .before .waiting-count .ensures) ∙ c .before .before .before .if2 .taken)
+    ∙ ap (λ (ws : List ℕ). onwardOf (s .hash) ws (s .count + length piece) piece)
+    (words-short (blockOf (s .hash)) (step (describe (s .hash) .core)) (s .words) [] (block-positive (s .hash)))
+    ∙ straight-after s piece (sym (c .before .before .before .before .before .before .waiting-count .ensures) ∙ c .before .before .before .before .if2 .taken)
 
 filled-requires : tie.Need-filled-requires
 filled-requires c κs =
@@ -52,5 +64,5 @@ filled-requires c κs =
 pub taken-spec : {M : Type 1} → statement M
 taken-spec =
     tie.close
-    (tie.spec (λ c κs. search needs) (λ c κs. search needs) sub-room appended-requires returns (λ c. search needs) onward-requires returns-2 filled-requires
+    (tie.spec (λ c κs. search needs) (λ c κs. search needs) sub-room appended-requires returns (λ c. search needs) (λ c. search needs) onward-requires returns-2 filled-requires
     (λ c. search needs))

@@ -7,10 +7,10 @@ use Rattle.vectors.proofs.hashing.messages.pattern.Statement.{statement
 use Rattle.vectors.proofs.hashing.messages.pattern.Tie as tie
 
 abbrev Inv-loop : tie.InvT-loop
-Inv-loop bytes₀ i₀ bytes i = (i ≤ 257) × (length bytes ≡ 257)
+Inv-loop bytes₀ i₀ bytes i = (i ≤ 385) × (length bytes ≡ 385)
 
 abbrev μ-loop : tie.MeasureT-loop
-μ-loop bytes₀ i₀ bytes i = 257 - i
+μ-loop bytes₀ i₀ bytes i = 385 - i
 
 pub pattern-spec : {M : Type 1} → statement M
 pattern-spec =
