@@ -309,8 +309,8 @@ def own(hash, count):
 
 
 def runs(hash):
-    """Pieces that make whole blocks with what waits, none included: the waiting bytes, the blocks, the bytes left over."""
-    for waiting, blocks, left in [
+    """Pieces that make whole blocks with what waits: the count before, the blocks, zero included, and the bytes left over."""
+    for count, blocks, left in [
         (0, 0, 0),
         (0, 0, 1),
         (0, 1, 0),
@@ -324,11 +324,13 @@ def runs(hash):
         (1, 3, 1),
         (63, 1, 0),
         (63, 2, 1),
-        (63, 3, 0),
+        (127, 1, 0),
+        (127, 2, 1),
+        (127, 3, 0),
     ]:
-        state = own(hash, waiting)
+        state = own(hash, count)
         yield str(state)
-        line, state = piece_line(state, pattern(blocks * hash.block + left)[waiting:])
+        line, state = piece_line(state, pattern(blocks * hash.block + left)[state.waiting_count() :])
         yield line
         yield str(state)
         yield end_line(state)

@@ -49,15 +49,15 @@ static const struct {
     uint32_t answer;
     size_t limit;
 } calls[] = {
-    {"tirmuzzle_tag", tag, 0, 4352},
-    {"tirmuzzle_verify", verify, 1, 4608},
-    {"tirmuzzle_extract", extract, 0, 4352},
-    {"tirmuzzle_expand", expand, 0, 5120},
-    {"tirmuzzle_report_write", write, 0, 4608},
-    {"tirmuzzle_report_fingerprint", fingerprint, 0, 4352},
-    {"tirmuzzle_digest", digest, 0, 2560},
-    {"tirmuzzle_report_keys", keys, 0, 5376},
-    {"tirmuzzle_report_check", check, 1, 4608},
+    {"tirmuzzle_tag", tag, 0, 4096},
+    {"tirmuzzle_verify", verify, 1, 4304},
+    {"tirmuzzle_extract", extract, 0, 4144},
+    {"tirmuzzle_expand", expand, 0, 4912},
+    {"tirmuzzle_report_write", write, 0, 4352},
+    {"tirmuzzle_report_fingerprint", fingerprint, 0, 4128},
+    {"tirmuzzle_digest", digest, 0, 2272},
+    {"tirmuzzle_report_keys", keys, 0, 5024},
+    {"tirmuzzle_report_check", check, 1, 4336},
     {"tirmuzzle_report_read", read, 0, 512},
     {"tirmuzzle_report_site", site, 0, 512},
 };

@@ -4,6 +4,6 @@ use mathlib.Core.List.{List}
 use Prim.Native.Nat.{ℕ, _%_}
 use lib.ListN.{length}
 
--- a run: bytes that fill a whole number of blocks of B bytes, none included
+-- a run: bytes that fill a whole number of blocks of B bytes, zero included
 abbrev pub Run : ℕ → List ℕ → Type 0
 Run B l = length l % B ≡ 0

@@ -55,7 +55,7 @@ fn after_run(hash: Hash, words: [u64; 8], run: &[u8], k: &[u64; 80]) -> [u64; 8]
 }
 
 // The chaining words after two runs, one after the other; either may be of no blocks. The table is named here, once, and lent to all
-// blocks. The runs are taken by a loop, so that the block step has one caller and is compiled into it, beside the table.
+// blocks. The runs are taken by a loop, so that `after_run` is called in one place and is compiled into it, beside the table.
 pub(crate) fn words_after<'a>(
     hash: Hash,
     words: [u64; 8],

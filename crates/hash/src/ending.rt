@@ -1,7 +1,7 @@
 // The end: the padding, and the digest's bytes.
 ghost use mathlib.Core.Path.{_≡_};
 ghost use mathlib.Core.List.{_++_, _∷_};
-ghost use Prim.Native.Nat.{_+_, _-_, _*_, _≤_, _<_};
+ghost use Prim.Native.Nat.{_+_, _-_, _≤_, _<_};
 ghost use lib.ListN.{length, take, replicate};
 ghost use Rattle.octets.specs.Number.{bytes};
 ghost use Rattle.octets.specs.Zeros.{zerosTo};

@@ -2,9 +2,8 @@
 // copied.
 ghost use mathlib.Core.Path.{_≡_};
 ghost use mathlib.Core.Bool.{true};
-ghost use mathlib.Core.List.{_++_};
-ghost use Prim.Native.Nat.{_+_, _≤_, _<_};
-ghost use lib.ListN.{length, take};
+ghost use Prim.Native.Nat.{_+_, _≤_};
+ghost use lib.ListN.{length};
 ghost use lib.Seq.{paste};
 ghost use Rattle.algorithm.specs.Refusals.{mostBytes};
 ghost use Rattle.algorithm.specs.Hashes.{blockOf};
@@ -41,8 +40,8 @@ fn placed(bytes: &[u8]) -> [u8; LARGEST_BLOCK]
     waiting
 }
 
-// The state that goes on from these words with a run, and then with bytes where nothing waits, at this count: their whole blocks are a
-// run too, and what is left waits.
+// The state that goes on from these words with a run, and then with bytes: the whole blocks of the bytes are a run too, and what they
+// leave waits. `count` is the state's.
 fn onward<'a>(hash: Hash, words: [u64; 8], count: u64, run: &'a [u8], bytes: &'a [u8]) -> State
     requires { ⌜ (fit hash words ≡ true) × (Run (blockOf hash) (now run)) ⌝ }
     ensures { λ r. ⌜ r ≡ onwardOf hash (wordsOf hash words (now (run .entry))) count (now (bytes .entry)) ⌝ }
@@ -59,7 +58,7 @@ fn onward<'a>(hash: Hash, words: [u64; 8], count: u64, run: &'a [u8], bytes: &'a
     }
 }
 
-// The state after a piece that fills the block that waits, of which it takes the first `room` bytes: that block is a run.
+// The state after a piece whose first `room` bytes fill the block that has begun: that block is a run.
 fn filled(state: State, at: usize, room: usize, piece: &[u8]) -> State
     requires { ⌜ Fills state at room (now piece) ⌝ }
     ensures { λ r. ⌜ r ≡ afterOf state (now (piece .entry)) ⌝ }

@@ -2,7 +2,7 @@
 use mathlib.Core.Path.{_≡_, refl, sym, ap, _∙_}
 use mathlib.Core.List.{List, [], _∷_, _++_, foldl, foldl-append, flatten}
 use Prim.Native.Nat.{ℕ, zero, suc, _+_, _-_, _*_, _/_, _%_, _≤_, _<_}
-use native.Mathlib.Nat.{zero-add, zero-mul, suc-add, add-mul, div-eq-of-lt, div-eq-sub-div, div-mul-le-self, mod-eq-sub-div-mul, mul-add-div-right, mul-mod-left, mod-lt, div-add-mod'}
+use native.Mathlib.Nat.{zero-add, zero-mul, suc-add, add-mul, div-eq-of-lt, div-eq-sub-div, div-mul-le-self, mod-eq-sub-div-mul, mul-add-div-right, mul-mod-left, zero-mod, mod-self, mod-lt, div-add-mod'}
 use native.Mathlib.Numerals.{add-one}
 use native.Mathlib.Omega.{arith}
 use lib.ListN.{length, take, drop, length-append, length-drop, drop-of-length-le, take-append-drop}
@@ -66,6 +66,13 @@ module _ (B : ℕ) where
       let e : length l / B * B ≡ length l = omega (arith, div-add-mod' (length l) B) in
       first-flat (length l / B) l ∙ ap (λ (k : ℕ). take k l) e ∙ take-length l
 
+  -- no bytes are a run, and so is one block
+  pub run-none : Run B []
+  run-none = zero-mod B
+
+  pub run-block : (l : List ℕ) → length l ≡ B → Run B l
+  run-block l e = ap (λ (n : ℕ). n % B) e ∙ mod-self B
+
   -- what is left: its length, and two cases
   pub left-length : (l : List ℕ) → length (leftOver B l) ≡ length l % B
   unfolding leftOver
@@ -82,7 +89,7 @@ module _ (B : ℕ) where
   pub left-less : (l : List ℕ) → 0 < B → length (leftOver B l) < B
   left-less l p = omega (arith, left-length l, mod-lt (length l) p)
 
-  -- where the whole blocks end: before them stands a run, and after them what is left, as a loan of that part has it
+  -- the place where the whole blocks end: before it stands a run, and after it what is left, as a loan of that part has it
   cut-is : (l : List ℕ) → length l - length l % B ≡ length l / B * B
   cut-is l = omega (arith, div-add-mod' (length l) B)
 
@@ -137,6 +144,9 @@ module _ (B : ℕ) where
     pub words-short : (ws l : List ℕ) → length l < B → wordsAfter B step ws l ≡ ws
     unfolding wordsAfter wholeBlocks firstBlocks
     words-short ws l h = ap (λ (k : ℕ). foldl step ws (firstBlocks B k l)) (div-eq-of-lt h)
+
+    pub words-none : (ws : List ℕ) → 0 < B → wordsAfter B step ws [] ≡ ws
+    words-none ws p = words-short ws [] p
 
     -- one block more
     pub words-step : (ws l : List ℕ) → 0 < B → B ≤ length l → wordsAfter B step ws l ≡ wordsAfter B step (step ws (take B l)) (drop B l)

@@ -2,12 +2,11 @@
 use mathlib.Core.Path.{_≡_, refl, ap, _∙_}
 use mathlib.Core.Bool.{true, false}
 use mathlib.Core.List.{List, [], _++_, append-assoc}
-use Prim.Native.Nat.{ℕ, _+_, _-_, _%_, _≤_, _<_}
-use native.Mathlib.Nat.{mod-self}
+use Prim.Native.Nat.{ℕ, _+_, _-_, _≤_, _<_}
 use native.Mathlib.Omega.{arith}
 use lib.Dec.{eqb}
 use lib.ListN.{length, take, drop, replicate, length-append, length-drop, take-append-drop}
-use lib.Seq.{take-length, drop-drop, length-take-le, paste}
+use lib.Seq.{take-length, drop-drop, paste}
 use borrow.Author.Tests.{le-leb, lt-leb}
 use Rattle.algorithm.specs.Hashes.Laws.{block-positive}
 use Rattle.octets.specs.Every.{allZero}
@@ -77,20 +76,18 @@ appended-after s p l h short =
     in
     rw (words-short (blockOf (s .hash)) (step (describe (s .hash) .core)) (s .words) (waitingOf s ++ p) lt, left-short (blockOf (s .hash)) (waitingOf s ++ p) lt, take-length p, e)
 
--- a piece that fills the block that waits, from the words after that block
-pub filled-after : (s : State) (at room : ℕ) (p topped : List ℕ) → length (s .waiting) ≡ largestBlock → Fills s at room p
-    → topped ≡ wordsOf (s .hash) (s .words) (take at (s .waiting) ++ take room p)
-    → onwardOf (s .hash) topped (s .count + length p) (take (length p - room) (drop room p)) ≡ afterOf s p
+-- a piece that fills the block that has begun: that block is a run, and then comes what is left
+pub filled-after : (s : State) (at room : ℕ) (p block : List ℕ) → Fills s at room p → block ≡ take at (s .waiting) ++ take room p → Run (blockOf (s .hash)) block
+    → onwardOf (s .hash) (wordsOf (s .hash) (s .words) block) (s .count + length p) (take (length p - room) (drop room p)) ≡ afterOf s p
 unfolding afterOf
-filled-after s at room p topped l h et =
+filled-after s at room p block h eb r =
     let B = blockOf (s .hash) in
+    let f = step (describe (s .hash) .core) in
     let d : take (length p - room) (drop room p) ≡ drop room p = part-all p (length p) room refl in
-    let n : length (waitingOf s ++ take room p) ≡ B =
-    omega (arith, length-append (waitingOf s) (take room p), waiting-length s l, length-take-le room p (h .within), h .fills, h .waits)
+    let b : block ≡ waitingOf s ++ take room p = rw (h .waits) at eb in
+    let e : block ++ drop room p ≡ waitingOf s ++ p =
+    ap (λ (l : List ℕ). l ++ drop room p) b
+    ∙ append-assoc (waitingOf s) (take room p) (drop room p)
+    ∙ ap (λ (l : List ℕ). waitingOf s ++ l) (take-append-drop room p)
     in
-    let r : Run B (waitingOf s ++ take room p) = ap (λ (k : ℕ). k % B) n ∙ mod-self B in
-    let t : topped ≡ wordsOf (s .hash) (s .words) (waitingOf s ++ take room p) = rw (h .waits) at et in
-    let e : (waitingOf s ++ take room p) ++ drop room p ≡ waitingOf s ++ p =
-    append-assoc (waitingOf s) (take room p) (drop room p) ∙ ap (λ (l : List ℕ). waitingOf s ++ l) (take-append-drop room p)
-    in
-    rw (d, t, ← e, words-after-run B (step (describe (s .hash) .core)) (s .words) (waitingOf s ++ take room p) (drop room p) (block-positive (s .hash)) r, left-after-run B (waitingOf s ++ take room p) (drop room p) (block-positive (s .hash)) r)
+    rw (d, ← e, words-after-run B f (s .words) block (drop room p) (block-positive (s .hash)) r, left-after-run B block (drop room p) (block-positive (s .hash)) r)

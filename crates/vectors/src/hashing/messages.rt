@@ -93,7 +93,7 @@ const LENGTHS: [usize; 17] = [
     257,
 ];
 
-// A fixed pattern: the byte at a place is the place modulo 251. It has one byte more than the three largest blocks.
+// A fixed pattern: the byte at a place is the place modulo 251. It has one byte more than three of the largest blocks.
 pub(crate) const PATTERN: usize = 385;
 
 pub(crate) fn pattern() -> [u8; PATTERN]

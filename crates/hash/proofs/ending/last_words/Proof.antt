@@ -1,7 +1,5 @@
 -- `hash::ending::last_words`: the words after the last blocks, which are a run. Assumes nothing.
 use mathlib.Core.Path.{_≡_, refl, sym, _∙_}
-use mathlib.Core.List.{[]}
-use native.Mathlib.Nat.{zero-mod}
 use native.Mathlib.Omega.{arith}
 use lib.ListN.{length, length-map, take}
 use lib.Seq.{length-take-le}
@@ -9,7 +7,7 @@ use borrow.Author.Needs.{needs}
 use Rattle.algorithm.specs.Hashes.{blockOf}
 use Rattle.algorithm.specs.Hashes.Laws.{block-positive}
 use Rattle.hash.specs.Description.{describe}
-use Rattle.hash.specs.Blocks.Laws.{words-short}
+use Rattle.hash.specs.Blocks.Laws.{run-none, words-none}
 use Rattle.hash.specs.Sha2.{step}
 use Rattle.hash.specs.State.Laws.{waiting-less, waiting-most}
 use Rattle.hash.proofs.LastBlocks.{last-range, last-run, last-words-is}
@@ -69,7 +67,7 @@ words-after-requires c κs =
     let last = c .before .before .before .put-last-blocks in
     let r = last-range s (a .result) (end .result) (a .ensures) (end .ensures) in
     let l = length-take-le (end .result) (last .last .0) (omega (arith, last .ensures .0)) in
-    (start .pre .words, last-run s (a .result) (end .result) (take (end .result) (last .last .0)) (end .ensures) l, zero-mod (blockOf (s .hash)))
+    (start .pre .words, last-run s (a .result) (end .result) (take (end .result) (last .last .0)) (end .ensures) l, run-none (blockOf (s .hash)))
 
 returns : tie.Need-returns
 returns c =
@@ -81,7 +79,7 @@ returns c =
     let w : length (s .waiting) ≡ 128 = sym (length-map (s .waiting) (λ v. v)) ∙ start .good .0 .1 .1 .1 .1 .1 .0 .1 .0 .1 in
     let l = length-take-le (a .result) (s .waiting) (omega (arith, a .ensures, waiting-most s)) in
     c .words-after .ensures
-    ∙ words-short (blockOf (s .hash)) (step (describe (s .hash) .core)) _ [] (block-positive (s .hash))
+    ∙ words-none (blockOf (s .hash)) (step (describe (s .hash) .core)) _ (block-positive (s .hash))
     ∙ last-words-is s (a .result) (end .result) (take (end .result) (last .last .0)) (start .pre .count) (a .ensures) (end .ensures) (rw l at (last .ensures .1))
 
 pub last-words-spec : {M : Type 1} → statement M

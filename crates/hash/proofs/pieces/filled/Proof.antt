@@ -1,8 +1,7 @@
 -- `hash::pieces::filled`: the block that the piece tops up, and what comes after it. Assumes nothing.
 use mathlib.Core.Path.{_≡_, sym, ap, _∙_}
 use mathlib.Core.List.{_++_}
-use Prim.Native.Nat.{ℕ, _+_, _%_}
-use native.Mathlib.Nat.{mod-self}
+use Prim.Native.Nat.{ℕ, _+_, _≤_}
 use native.Mathlib.Omega.{arith}
 use lib.ListN.{length, length-map, take}
 use lib.Seq.{length-take-le}
@@ -11,7 +10,7 @@ use denote.Ref.{now}
 use Rattle.octets.specs.Parts.{take-pasted}
 use Rattle.algorithm.specs.Hashes.{blockOf}
 use Rattle.algorithm.specs.Hashes.Laws.{block-most}
-use Rattle.hash.specs.State.{wordsOf}
+use Rattle.hash.specs.Blocks.Laws.{run-block}
 use Rattle.hash.specs.State.Open.{filled-after}
 use Rattle.hash.proofs.pieces.filled.Statement.{statement}
 use Rattle.hash.proofs.pieces.filled.Tie as tie
@@ -55,7 +54,7 @@ onward-requires c κs =
     let block = c .before .before .before .before .put-at in
     let w : length (s .waiting) ≡ 128 = sym (length-map (s .waiting) (λ v. v)) ∙ start .good .0 .1 .1 .1 .1 .1 .0 .1 .0 .1 in
     let l = length-take-le (start .args .at + start .args .room) (block .last .0) (omega (arith, block-most (s .hash), start .pre .fills, block .kept .0)) in
-    (start .pre .words, ap (λ (n : ℕ). n % blockOf (s .hash)) (l ∙ start .pre .fills) ∙ mod-self (blockOf (s .hash)))
+    (start .pre .words, run-block (blockOf (s .hash)) (take (start .args .at + start .args .room) (block .last .0)) (l ∙ start .pre .fills))
 
 returns : tie.Need-returns
 returns c =
@@ -64,15 +63,18 @@ returns c =
     let at = start .args .at in
     let room = start .args .room in
     let piece = now (start .args .piece) in
-    let block = c .before .before .before .before .before .put-at in
+    let put = c .before .before .before .before .before .put-at in
+    let block = take (at + room) (put .last .0) in
     let w : length (s .waiting) ≡ 128 = sym (length-map (s .waiting) (λ v. v)) ∙ start .good .0 .1 .1 .1 .1 .1 .0 .1 .0 .1 in
     let l = length-take-le room piece (start .pre .within) in
-    let p = take-pasted (s .waiting) at (take room piece) (omega (arith, block-most (s .hash), start .pre .fills)) in
-    let e : take (at + room) (block .last .0) ≡ take at (s .waiting) ++ take room piece =
-    ap (λ (n : ℕ). take (at + n) (block .last .0)) (sym l) ∙ ap (take (at + length (take room piece))) (block .ensures) ∙ p
+    let fits : at + length (take room piece) ≤ length (s .waiting) = omega (arith, block-most (s .hash), start .pre .fills) in
+    let e : block ≡ take at (s .waiting) ++ take room piece =
+    ap (λ (n : ℕ). take (at + n) (put .last .0)) (sym l)
+    ∙ ap (take (at + length (take room piece))) (put .ensures)
+    ∙ take-pasted (s .waiting) at (take room piece) fits
     in
-    c .onward .ensures
-    ∙ filled-after s at room piece (wordsOf (s .hash) (s .words) (take (at + room) (block .last .0))) w (start .pre) (ap (wordsOf (s .hash) (s .words)) e)
+    let n = length-take-le (at + room) (put .last .0) (omega (arith, put .kept .0)) in
+    c .onward .ensures ∙ filled-after s at room piece block (start .pre) e (run-block (blockOf (s .hash)) block (n ∙ start .pre .fills))
 
 pub filled-spec : {M : Type 1} → statement M
 filled-spec =

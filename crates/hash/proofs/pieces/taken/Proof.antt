@@ -1,8 +1,7 @@
 -- `hash::pieces::taken`: a piece fills a block or it does not. Assumes nothing.
 use mathlib.Core.Path.{_≡_, sym, ap, _∙_}
-use mathlib.Core.List.{List, []}
+use mathlib.Core.List.{List}
 use Prim.Native.Nat.{ℕ, _+_}
-use native.Mathlib.Nat.{zero-mod}
 use native.Mathlib.Omega.{arith}
 use lib.ListN.{length, length-map}
 use borrow.Author.Needs.{needs}
@@ -10,7 +9,7 @@ use denote.Ref.{now}
 use Rattle.algorithm.specs.Hashes.{blockOf}
 use Rattle.algorithm.specs.Hashes.Laws.{block-most, block-positive}
 use Rattle.hash.specs.Description.{describe}
-use Rattle.hash.specs.Blocks.Laws.{words-short}
+use Rattle.hash.specs.Blocks.Laws.{run-none, words-none}
 use Rattle.hash.specs.Sha2.{step}
 use Rattle.hash.specs.Inside.{onwardOf}
 use Rattle.hash.specs.State.Laws.{waiting-less, sound-words}
@@ -40,7 +39,7 @@ returns c =
 onward-requires : tie.Need-onward-requires
 onward-requires c κs =
     let start = c .before .before .before .before .before .before .before .before in
-    (sound-words (start .args .state) (start .pre .sound), zero-mod (blockOf (start .args .state .hash)))
+    (sound-words (start .args .state) (start .pre .sound), run-none (blockOf (start .args .state .hash)))
 
 returns-2 : tie.Need-returns-2
 returns-2 c =
@@ -49,7 +48,7 @@ returns-2 c =
     let piece = now (start .args .piece) in
     c .onward .ensures
     ∙ ap (λ (ws : List ℕ). onwardOf (s .hash) ws (s .count + length piece) piece)
-    (words-short (blockOf (s .hash)) (step (describe (s .hash) .core)) (s .words) [] (block-positive (s .hash)))
+    (words-none (blockOf (s .hash)) (step (describe (s .hash) .core)) (s .words) (block-positive (s .hash)))
     ∙ straight-after s piece (sym (c .before .before .before .before .before .before .waiting-count .ensures) ∙ c .before .before .before .before .if2 .taken)
 
 filled-requires : tie.Need-filled-requires

@@ -5,10 +5,10 @@ use Rattle.vectors.proofs.hashing.runs.all.Statement.{statement}
 use Rattle.vectors.proofs.hashing.runs.all.Tie as tie
 
 abbrev Inv-loop : tie.InvT-loop
-Inv-loop number i₀ i = i ≤ 14
+Inv-loop number i₀ i = i ≤ 16
 
 abbrev μ-loop : tie.MeasureT-loop
-μ-loop number i₀ i = 14 - i
+μ-loop number i₀ i = 16 - i
 
 pub all-spec : {M : Type 1} → statement M
 all-spec =
