@@ -66,7 +66,7 @@ module _ (B : ℕ) where
       let e : length l / B * B ≡ length l = omega (arith, div-add-mod' (length l) B) in
       first-flat (length l / B) l ∙ ap (λ (k : ℕ). take k l) e ∙ take-length l
 
-  -- no bytes are a run, and so is one block
+  -- zero bytes are a run, and so is one block
   pub run-none : Run B []
   run-none = zero-mod B
 
