@@ -3,11 +3,12 @@
  * Link with libtirmuzzle.a, which is code for Linux on x86-64.
  *
  * Every call answers one of the numbers below: that of the first check in its list that fails, or else TIRMUZZLE_DONE. A refused call
- * writes to no buffer. No call keeps a pointer, allocates memory or has state, so calls may run at the same time.
+ * writes to no buffer. No call keeps a pointer, allocates memory or has state, so calls may run at the same time, but for other calls
+ * on a ledger while a report is submitted to it.
  *
  * A buffer is a pointer and how many elements it holds; NULL with 0 is an empty one. A buffer of bytes may start at any address, but
- * one of 32-bit numbers must be aligned for uint32_t and one of 64-bit numbers for uint64_t. Inputs may overlap each other. If an
- * output overlaps any other buffer of the same call, the behaviour is undefined.
+ * one of 32-bit numbers must be aligned for uint32_t, and one of 64-bit numbers or of records for uint64_t. Inputs may overlap each
+ * other. If an output, or a ledger that is submitted to, overlaps any other buffer of the same call, the behaviour is undefined.
  *
  * A pointer with no count beside it is no buffer: it leads to one number that a call answers beside its own, and that is always
  * written, with 0 where the call is refused. It must not be NULL, must be aligned for its type, and the number must not overlap any
@@ -39,7 +40,7 @@ enum {
     TIRMUZZLE_PRK_TOO_SHORT = 7,              /* PRK shorter than a digest */
     TIRMUZZLE_INFO_TOO_LONG = 8,              /* info over 1,024 bytes */
     TIRMUZZLE_OUTPUT_TOO_LONG = 9,            /* output over 255 digests */
-    TIRMUZZLE_STATE_NOT_SOUND = 10,           /* of work in pieces, which has no call here */
+    TIRMUZZLE_STATE_NOT_SOUND = 10,           /* a ledger is not sound; or a state of work in pieces, which has no call here */
     TIRMUZZLE_WRONG_REPORT_LENGTH = 11,       /* report too short, or its count is not its length less four */
     TIRMUZZLE_UNKNOWN_VERSION = 12,           /* the report's version is not 1 */
     TIRMUZZLE_TOO_MANY_SITES = 13,            /* more than 64 sites */
@@ -48,7 +49,9 @@ enum {
                                                  the labels to be written do not have as many bytes as their lengths add up to */
     TIRMUZZLE_SUM_TOO_LARGE = 16,             /* live bytes of more than 2^64 - 1 in all */
     TIRMUZZLE_NO_SUCH_SITE = 17,              /* no site at that place */
-    TIRMUZZLE_BUFFER_TOO_SHORT = 18           /* a buffer too short for the report to be written */
+    TIRMUZZLE_BUFFER_TOO_SHORT = 18,          /* a buffer too short for the report to be written */
+    TIRMUZZLE_LEDGER_FULL = 19,               /* the ledger has no free record */
+    TIRMUZZLE_TOTAL_TOO_LARGE = 20            /* the live bytes in the ledger would be more than 2^64 - 1 in all */
 };
 
 /* The hashes, and the bytes of their digests. */
@@ -99,6 +102,17 @@ enum {
     TIRMUZZLE_SITE_NUMBERS = 4
 };
 
+/* A record of a ledger: the fingerprint of a report that was counted, and its live bytes. It is used where in_use is 1, and free
+ * otherwise. */
+struct tirmuzzle_record {
+    uint8_t fingerprint[TIRMUZZLE_FINGERPRINT];
+    uint64_t live_bytes;
+    uint64_t in_use;
+};
+
+/* It has no padding: a compiler that lays it out otherwise refuses this type. */
+typedef char tirmuzzle_record_has_48_bytes[sizeof(struct tirmuzzle_record) == 48 ? 1 : -1];
+
 /* ---- For agents ---- */
 
 /* The first tag_length bytes of the HMAC of a message. out has exactly tag_length bytes.
@@ -120,7 +134,8 @@ uint32_t tirmuzzle_extract(uint32_t hash, const uint8_t *salt, size_t salt_lengt
 uint32_t tirmuzzle_expand(uint32_t hash, const uint8_t *prk, size_t prk_length, const uint8_t *info, size_t info_length,
                           uint8_t *out, size_t out_length);
 
-/* Reading a report. Every call below that takes one reads it first, with these checks in this order:
+/* Reading a report. Every call below that takes one reads it first, with these checks in this order; tirmuzzle_ledger_submit alone
+ * looks at its ledger before that:
  *
  *     11  it has fewer than 61 bytes, or its count is not its length less four
  *     12  its version is not 1
@@ -134,7 +149,7 @@ uint32_t tirmuzzle_expand(uint32_t hash, const uint8_t *prk, size_t prk_length, 
  *     15  bytes are left between the last site and the tag
  *     16  the live bytes of all sites add up to more than 2^64 - 1
  *
- * The tag plays no part in it. What a call refuses beyond this, it refuses only then. */
+ * The tag plays no part in it. What else a call refuses, it refuses only then. */
 
 /* The fingerprint of a report, which its send time, its attempt and its tag do not change, under the fingerprint key as it is lent.
  * out has TIRMUZZLE_FINGERPRINT bytes. Refuses as reading does, then with 3, 6. */
@@ -187,6 +202,47 @@ uint32_t tirmuzzle_report_read(const uint8_t *report, size_t report_length, uint
 /* The site at a place, counted from 0: where its label starts in the report, the label's length, live bytes, live blocks; site has
  * TIRMUZZLE_SITE_NUMBERS places. Refuses as reading does, then with 17, 6. */
 uint32_t tirmuzzle_report_site(const uint8_t *report, size_t report_length, uint64_t place, uint64_t *site, size_t site_count);
+
+/* The ledger, which counts each report once. It is a buffer of records, and one of n records, which may be 0, starts as n * 48 zero
+ * bytes. The host keeps it from call to call, on disk too if it likes: the numbers of a record are in the machine's own byte order,
+ * and the fingerprint is bytes. Records are never freed; a host that needs more room puts zero bytes of further records after the
+ * others, and the longer ledger holds the same. While a report is submitted to a ledger, no other call on it may run.
+ *
+ * A ledger is sound when
+ *
+ *     its used records stand first
+ *     its free records are all zero
+ *     no two used records have the same fingerprint
+ *     the live bytes of its used records add up to at most 2^64 - 1
+ *
+ * One that starts as zeros stays sound. Each call makes sure of it anew, so that its time grows with the square of the number of used
+ * records; docs/LIMITS.md has figures. */
+
+/* Submits a report to a ledger, with both keys of its machine as they are lent. A report that is new is entered in the first free
+ * record, with its fingerprint and the sum of its live bytes. One whose fingerprint stands in a used record is seen, and changes
+ * nothing, also where no record is free or the sum would pass 2^64 - 1. seen is always written: 1 where the report is seen, and 0 where
+ * it is new or the call is refused. Every refusal, 1 too, leaves the records as they were.
+ *
+ * A retry is known by its fingerprint alone. An agent that sends a report again as tirmuzzle_report_write says is counted once; where it
+ * measures its memory or its sites anew for the retry, the report has another fingerprint and counts a second time. So does one that
+ * is submitted under a fingerprint key of another block form.
+ *
+ * Refuses, in this order, with
+ *
+ *     10  the ledger is not sound
+ *         the numbers of reading
+ *      3  the tag key has more than 4,294,967,295 bytes
+ *      1  the tag differs
+ *      3  the fingerprint key has more than 4,294,967,295 bytes
+ *     19  the report is not seen, and no record is free
+ *     20  the report is not seen, and the live bytes of the ledger and of the report add up to more than 2^64 - 1 */
+uint32_t tirmuzzle_ledger_submit(struct tirmuzzle_record *records, size_t records_count, const uint8_t *report, size_t report_length,
+                                 const uint8_t *tag_key, size_t tag_key_length, const uint8_t *fingerprint_key,
+                                 size_t fingerprint_key_length, uint32_t *seen);
+
+/* The sum of the live bytes of a ledger's used records: those of each report that was counted, once. total is always written, with 0
+ * where the call is refused. Refuses with 10 where the ledger is not sound. */
+uint32_t tirmuzzle_ledger_total(const struct tirmuzzle_record *records, size_t records_count, uint64_t *total);
 
 #ifdef __cplusplus
 }

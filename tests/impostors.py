@@ -31,7 +31,7 @@ def impostors(edit):
 
 def refused_itself(log, crate, function):
     """Whether a log says of a function that it has no proof, for a reason of its own."""
-    verdict = re.escape(f"fn {crate}::{function}: ") + r"(not proved|no proof: (?!.*; it calls ).*)$"
+    verdict = re.escape(f"fn {crate}::{function}: ") + r"(not proved|no proof: )(?!.*; it calls ).*$"
     return re.search("^" + verdict, log, re.MULTILINE) is not None
 
 

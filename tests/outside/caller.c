@@ -1,5 +1,6 @@
 /* Calls the library from C on every case of a file that tests/outside/cases.py made, and compares the number, each byte of the
- * outputs and that the inputs are as they were. A report that was written is also read back and written again.
+ * outputs and of the ledger, and that the inputs are as they were. A report that was written is also read back and written again, and
+ * a ledger that was submitted to is added up and, where the report counts, submitted to again.
  *
  *     caller FILE [--case N]
  *
@@ -10,21 +11,23 @@
 #include "tirmuzzle.h"
 
 #include <signal.h>
+#include <stddef.h>
 #include <stdio.h>
 #include <stdlib.h>
 #include <string.h>
 #include <sys/mman.h>
 #include <valgrind/valgrind.h>
 
-/* The buffers of a case: five inputs, the output, and the length that a call writes beside it. */
-enum { INPUTS = 5, OUTPUT = INPUTS, LENGTH, BUFFERS };
+/* The buffers of a case: five inputs, the ledger that a report is submitted to, the output, and the number that a call answers beside
+ * its own. */
+enum { INPUTS = 5, LEDGER = INPUTS, OUTPUT, BESIDE, BUFFERS };
 enum { NUMBERS = 7, HEAD = 8 + 8 * NUMBERS, BUFFER_HEAD = 12, AROUND = 64, UNTOUCHABLE = 65536 };
 
 /* The calls in the order of cases.py. */
-enum { DIGEST, TAG, VERIFY, EXTRACT, EXPAND, FINGERPRINT, KEYS, CHECK, READ, SITE, WRITE, CALLS };
+enum { DIGEST, TAG, VERIFY, EXTRACT, EXPAND, FINGERPRINT, KEYS, CHECK, READ, SITE, WRITE, SUBMIT, TOTAL, CALLS };
 static const char *const names[CALLS] = {
-    "digest",      "tag",          "verify",      "extract",     "expand",       "report_fingerprint",
-    "report_keys", "report_check", "report_read", "report_site", "report_write",
+    "digest",       "tag",         "verify",      "extract",      "expand",        "report_fingerprint", "report_keys",
+    "report_check", "report_read", "report_site", "report_write", "ledger_submit", "ledger_total",
 };
 
 /* How memory is lent. */
@@ -34,10 +37,11 @@ static const char *const ways[WAYS] = {
 };
 
 /* A buffer as the file describes it: the bytes of an element, or 0 where the call has no such buffer, how many elements there are,
- * and the bytes that the file gives: of an input all, of an output those that the call must write. */
+ * and the bytes that the file gives: of an input and of a ledger all, of an output those that the call must write. Before the call an
+ * input holds the same, a ledger other bytes, and an output nothing that the file gives. */
 struct buffer {
     size_t size, count, given_length;
-    const uint8_t *given;
+    const uint8_t *given, *before;
 };
 
 struct test_case {
@@ -66,6 +70,15 @@ static void require(int holds, const char *what)
     }
 }
 
+/* A record has the layout that the header promises. */
+static void check_layout(void)
+{
+    require(sizeof(struct tirmuzzle_record) == 48, "a record does not have 48 bytes");
+    require(offsetof(struct tirmuzzle_record, fingerprint) == 0, "a fingerprint does not stand first in its record");
+    require(offsetof(struct tirmuzzle_record, live_bytes) == 32, "live bytes do not stand at place 32 of their record");
+    require(offsetof(struct tirmuzzle_record, in_use) == 40, "in_use does not stand at place 40 of its record");
+}
+
 static uint64_t little(const uint8_t *bytes, int count)
 {
     uint64_t number = 0;
@@ -91,6 +104,8 @@ static void print_case(const char *what)
     fprintf(stderr, "\n");
     for (int i = 0; i < INPUTS && now.buffers[i].size > 0; i++)
         print_bytes("input", now.buffers[i].given, now.buffers[i].given_length);
+    if (now.buffers[LEDGER].size > 0)
+        print_bytes("ledger before the call", now.buffers[LEDGER].before, now.buffers[LEDGER].given_length);
     fprintf(stderr, "  output of %lu places\n  expected answer: %lu\n", (unsigned long)now.buffers[OUTPUT].count,
             (unsigned long)now.answer);
 }
@@ -129,7 +144,8 @@ static struct lent lend(int buffer)
         lent.start = rooms[buffer] + (way == BEFORE_UNTOUCHABLE ? room_length - length : 0);
         return lent;
     }
-    size_t before = way == EXACT_BLOCK ? 0 : AROUND + now.place % 16 / size * size;
+    size_t alignment = size < sizeof(uint64_t) ? size : sizeof(uint64_t);
+    size_t before = way == EXACT_BLOCK ? 0 : AROUND + now.place % 16 / alignment * alignment;
     lent.block_length = length + (way == EXACT_BLOCK ? 0 : 2 * AROUND);
     lent.block = malloc(lent.block_length);
     require(lent.block != NULL, "out of memory");
@@ -155,9 +171,10 @@ static int around_unchanged(const struct lent *lent)
 static uint32_t make_call(const struct lent *lent)
 {
     const void *a = lent[0].start, *b = lent[1].start, *c = lent[2].start, *d = lent[3].start, *e = lent[4].start;
-    void *out = lent[OUTPUT].start, *length = lent[LENGTH].start;
+    void *ledger = lent[LEDGER].start, *out = lent[OUTPUT].start, *beside = lent[BESIDE].start;
     size_t a_count = now.buffers[0].count, b_count = now.buffers[1].count, c_count = now.buffers[2].count;
-    size_t d_count = now.buffers[3].count, e_count = now.buffers[4].count, out_count = now.buffers[OUTPUT].count;
+    size_t d_count = now.buffers[3].count, e_count = now.buffers[4].count;
+    size_t ledger_count = now.buffers[LEDGER].count, out_count = now.buffers[OUTPUT].count;
     const uint64_t *n = now.numbers;
     uint32_t hash = (uint32_t)n[0];
     switch (now.call) {
@@ -171,9 +188,11 @@ static uint32_t make_call(const struct lent *lent)
     case CHECK: return tirmuzzle_report_check(a, a_count, b, b_count);
     case READ: return tirmuzzle_report_read(a, a_count, out, out_count);
     case SITE: return tirmuzzle_report_site(a, a_count, n[0], out, out_count);
-    default:
+    case WRITE:
         return tirmuzzle_report_write(hash, (uint32_t)n[1], n[2], n[3], n[4], (uint8_t)n[5], n[6], a, a_count, b, b_count, c,
-                                      c_count, d, d_count, e, e_count, out, out_count, length);
+                                      c_count, d, d_count, e, e_count, out, out_count, beside);
+    case SUBMIT: return tirmuzzle_ledger_submit(ledger, ledger_count, a, a_count, b, b_count, c, c_count, beside);
+    default: return tirmuzzle_ledger_total(a, a_count, beside);
     }
 }
 
@@ -263,32 +282,61 @@ static int as_expected(const struct buffer *buffer, const struct lent *lent)
     return 1;
 }
 
+/* After a submission the total of the ledger is the sum of its used records, or refused where the submission was refused for the
+ * ledger; and a report that was new or seen is seen when it is submitted again, which changes nothing. Answers what is wrong, or
+ * NULL. */
+static const char *wrong_after_submission(uint32_t answer, const struct lent *lent)
+{
+    const struct tirmuzzle_record *records = (const void *)lent[LEDGER].start;
+    uint32_t expected = answer == TIRMUZZLE_STATE_NOT_SOUND ? answer : TIRMUZZLE_DONE, seen;
+    uint64_t sum = 0, total = ~(uint64_t)0;
+    for (size_t i = 0; expected == TIRMUZZLE_DONE && i < now.buffers[LEDGER].count; i++)
+        sum += records[i].in_use == 1 ? records[i].live_bytes : 0;
+    if (tirmuzzle_ledger_total(records, now.buffers[LEDGER].count, &total) != expected || total != sum)
+        return "another total after the submission";
+    if (answer != TIRMUZZLE_DONE)
+        return NULL;
+    uint32_t again = make_call(lent);
+    memcpy(&seen, lent[BESIDE].start, sizeof seen);
+    if (again != TIRMUZZLE_DONE || seen != 1 || !as_expected(&now.buffers[LEDGER], &lent[LEDGER]))
+        return "the report is not seen when it is submitted again";
+    return NULL;
+}
+
 static void run_case(void)
 {
     struct lent lent[BUFFERS];
     for (int i = 0; i < BUFFERS; i++) {
         lent[i] = lend(i);
         for (size_t k = 0; k < lent[i].length; k++)
-            lent[i].start[k] = i < INPUTS ? now.buffers[i].given[k] : filling(k);
+            lent[i].start[k] = now.buffers[i].before != NULL ? now.buffers[i].before[k] : filling(k);
     }
     uint32_t answer = make_call(lent);
     const char *wrong = NULL;
     for (int i = 0; i < BUFFERS; i++) {
         if (!around_unchanged(&lent[i]))
-            wrong = i < INPUTS ? "bytes around an input were changed" : "bytes around an output were changed";
+            wrong = i < INPUTS ? "bytes around an input were changed" : "bytes around a ledger or an output were changed";
         if (!as_expected(&now.buffers[i], &lent[i]))
-            wrong = i < INPUTS ? "an input was changed" : i == OUTPUT ? "another output" : "another length";
+            wrong = i < INPUTS    ? "an input was changed"
+                    : i == LEDGER ? "another ledger"
+                    : i == OUTPUT ? "another output"
+                                  : "another number beside the answer";
     }
     if (answer != now.answer)
         wrong = "another answer";
     if (wrong == NULL && now.call == WRITE && answer == TIRMUZZLE_DONE)
         wrong = wrong_when_read(lent[OUTPUT].start, now.buffers[OUTPUT].given_length);
+    if (wrong == NULL && now.call == SUBMIT)
+        wrong = wrong_after_submission(answer, lent);
     if (wrong != NULL) {
         print_case(wrong);
         fprintf(stderr, "  found answer: %lu\n", (unsigned long)answer);
-        for (int i = OUTPUT; i < BUFFERS && now.buffers[i].size > 0; i++) {
-            print_bytes("of the output, what must be written", now.buffers[i].given, now.buffers[i].given_length);
-            print_bytes("found output", lent[i].start, lent[i].length);
+        for (int i = LEDGER; i < BUFFERS; i++) {
+            if (now.buffers[i].size == 0)
+                continue;
+            print_bytes(i == LEDGER ? "ledger after the call" : "of the output, what must be written", now.buffers[i].given,
+                        now.buffers[i].given_length);
+            print_bytes(i == LEDGER ? "found ledger" : "found output", lent[i].start, lent[i].length);
         }
         print_again();
         exit(1);
@@ -302,10 +350,15 @@ static void run_case(void)
         free(lent[i].block);
 }
 
-/* Turns the numbers that a buffer has in the file, with their lowest bytes first, to this machine's. */
+/* Turns the numbers that a buffer has in the file, with their lowest bytes first, to this machine's. A record has them after its
+ * fingerprint. */
 static void turn_numbers(uint8_t *bytes, size_t length, size_t size)
 {
     for (size_t i = 0; i < length; i += size) {
+        if (size == sizeof(struct tirmuzzle_record)) {
+            turn_numbers(bytes + i + TIRMUZZLE_FINGERPRINT, size - TIRMUZZLE_FINGERPRINT, sizeof(uint64_t));
+            continue;
+        }
         uint64_t number = little(bytes + i, (int)size);
         uint32_t half = (uint32_t)number;
         memcpy(bytes + i, size == 4 ? (void *)&half : (void *)&number, size);
@@ -326,13 +379,15 @@ static uint8_t *read_case(uint8_t *at)
         struct buffer *buffer = &now.buffers[i];
         buffer->size = (size_t)little(head, 4);
         buffer->count = (size_t)little(head + 4, 4);
-        buffer->given_length = buffer->size * (size_t)little(head + 8, 4);
-        buffer->given = given;
-        size_t length = buffer->size * buffer->count;
-        require(i < INPUTS ? buffer->given_length == length : buffer->given_length <= length, "the file gives a buffer wrongly");
+        size_t length = buffer->size * buffer->count, in_file = buffer->size * (size_t)little(head + 8, 4);
+        size_t whole = i == LEDGER ? 2 * length : length;
+        require(i <= LEDGER ? in_file == whole : in_file <= whole, "the file gives a buffer wrongly");
         if (buffer->size > 1)
-            turn_numbers(given, buffer->given_length, buffer->size);
-        given += buffer->given_length;
+            turn_numbers(given, in_file, buffer->size);
+        buffer->before = i <= LEDGER ? given : NULL;
+        buffer->given = i == LEDGER ? given + length : given;
+        buffer->given_length = i == LEDGER ? length : in_file;
+        given += in_file;
     }
     return given;
 }
@@ -364,6 +419,7 @@ static void make_rooms(size_t longest)
 int main(int count, char **words)
 {
     require(count == 2 || (count == 4 && strcmp(words[2], "--case") == 0), "usage: caller FILE [--case N]");
+    check_layout();
     size_t length;
     uint8_t *content = read_file(words[1], &length);
     require(length >= 20 && memcmp(content, "TIRMUZZL", 8) == 0, "this is no file of cases");

@@ -1,14 +1,23 @@
 // Calls the library from Rust on every case of a file that tests/outside/cases.py made, by declarations of its own, and compares
-// the number, each byte of the outputs and that the inputs are as they were. A report that was written is also read back and
-// written again.
+// the number, each byte of the outputs and of the ledger, and that the inputs are as they were. A report that was written is also read
+// back and written again, and a ledger that was submitted to is added up and, where the report counts, submitted to again.
 //
 //     caller FILE [--case N]
 //
 // Each case runs twice, with other bytes in the outputs beforehand. An empty buffer is NULL the first time and a pointer that leads
 // nowhere the second. The first failure ends the program.
 use std::array::from_fn;
+use std::mem::size_of;
 use std::process::exit;
 use std::ptr;
+
+/// A record of a ledger.
+#[repr(C)]
+struct Record {
+    fingerprint: [u8; 32],
+    live_bytes: u64,
+    in_use: u64,
+}
 
 #[rustfmt::skip]
 extern "C" {
@@ -32,25 +41,36 @@ extern "C" {
                               labels: *const u8, labels_length: usize, label_lengths: *const u32, label_lengths_count: usize,
                               live_bytes: *const u64, live_bytes_count: usize, live_blocks: *const u32, live_blocks_count: usize,
                               key: *const u8, key_length: usize, out: *mut u8, out_length: usize, length: *mut u64) -> u32;
+    fn tirmuzzle_ledger_submit(records: *mut Record, records_count: usize, report: *const u8, report_length: usize,
+                               tag_key: *const u8, tag_key_length: usize, fingerprint_key: *const u8,
+                               fingerprint_key_length: usize, seen: *mut u32) -> u32;
+    fn tirmuzzle_ledger_total(records: *const Record, records_count: usize, total: *mut u64) -> u32;
 }
 
-const NAMES: [&str; 11] = [
+const NAMES: [&str; 13] = [
     "digest", "tag", "verify", "extract", "expand",
     "report_fingerprint", "report_keys", "report_check", "report_read", "report_site", "report_write",
+    "ledger_submit", "ledger_total",
 ];
 const WRITE: usize = 10;
+const SUBMIT: usize = 11;
+const TOTAL: usize = 12;
+const NOT_SOUND: u32 = 10;
 
 const NUMBERS: usize = 7;
 const INPUTS: usize = 5;
-const OUTPUT: usize = INPUTS; // after it comes the length that a call writes beside the output
-const BUFFERS: usize = INPUTS + 2;
+const LEDGER: usize = INPUTS; // the one that a report is submitted to
+const OUTPUT: usize = LEDGER + 1;
+const BESIDE: usize = OUTPUT + 1; // the number that a call answers beside its own
+const BUFFERS: usize = BESIDE + 1;
 
-/// The bytes of an element, how many elements there are, and what the file gives: of an input all, of an output what the call must
-/// write.
+/// The bytes of an element, how many elements there are, and what the file gives: of an input and of a ledger all, of an output what
+/// the call must write. Before the call an input holds the same, a ledger other bytes, and an output nothing that the file gives.
 #[derive(Clone, Copy)]
 struct Buffer<'a> {
     size: usize,
     count: usize,
+    before: &'a [u8],
     given: &'a [u8],
 }
 
@@ -83,7 +103,16 @@ impl<'a> Rest<'a> {
         let (call, answer) = (self.size(), self.number(4) as u32);
         let numbers = [(); NUMBERS].map(|()| self.number(8));
         let described = [(); BUFFERS].map(|()| (self.size(), self.size(), self.size()));
-        let buffers = described.map(|(size, count, given)| Buffer { size, count, given: self.bytes(size * given) });
+        let buffers = from_fn(|i| {
+            let (size, count, elements) = described[i];
+            let given = self.bytes(size * elements);
+            let (before, given) = match i {
+                LEDGER => given.split_at(size * count),
+                OUTPUT.. => (&[][..], given),
+                _ => (given, given),
+            };
+            Buffer { size, count, before, given }
+        });
         Case { call, answer, numbers, buffers }
     }
 }
@@ -93,6 +122,18 @@ enum Lent {
     Bytes(Box<[u8]>),
     Halves(Box<[u32]>),
     Words(Box<[u64]>),
+    Records(Box<[Record]>),
+}
+
+impl Record {
+    fn holding(bytes: &[u8]) -> Record {
+        let number = |at: usize| u64::from_le_bytes(bytes[at..at + 8].try_into().unwrap());
+        Record { fingerprint: bytes[..32].try_into().unwrap(), live_bytes: number(32), in_use: number(40) }
+    }
+
+    fn content(&self) -> Vec<u8> {
+        [&self.fingerprint[..], &self.live_bytes.to_le_bytes(), &self.in_use.to_le_bytes()].concat()
+    }
 }
 
 impl Lent {
@@ -101,6 +142,7 @@ impl Lent {
         match size {
             4 => Lent::Halves(bytes.chunks(4).map(|chunk| u32::from_le_bytes(chunk.try_into().unwrap())).collect()),
             8 => Lent::Words(bytes.chunks(8).map(|chunk| u64::from_le_bytes(chunk.try_into().unwrap())).collect()),
+            48 => Lent::Records(bytes.chunks(48).map(Record::holding).collect()),
             _ => Lent::Bytes(bytes.into()),
         }
     }
@@ -110,6 +152,7 @@ impl Lent {
             Lent::Bytes(bytes) => bytes.to_vec(),
             Lent::Halves(halves) => halves.iter().flat_map(|half| half.to_le_bytes()).collect(),
             Lent::Words(words) => words.iter().flat_map(|word| word.to_le_bytes()).collect(),
+            Lent::Records(records) => records.iter().flat_map(Record::content).collect(),
         }
     }
 
@@ -118,6 +161,7 @@ impl Lent {
             Lent::Bytes(bytes) => bytes.len(),
             Lent::Halves(halves) => halves.len(),
             Lent::Words(words) => words.len(),
+            Lent::Records(records) => records.len(),
         }
     }
 
@@ -129,20 +173,21 @@ impl Lent {
             Lent::Bytes(bytes) => bytes.as_mut_ptr(),
             Lent::Halves(halves) => halves.as_mut_ptr().cast(),
             Lent::Words(words) => words.as_mut_ptr().cast(),
+            Lent::Records(records) => records.as_mut_ptr().cast(),
         }
     }
 }
 
-/// What a buffer holds before the call, or must hold after it: what the file gives where `written`, and the filling in the rest.
-fn content(buffer: &Buffer, written: bool, filling: u8) -> Vec<u8> {
-    let mut content = if written { buffer.given.to_vec() } else { Vec::new() };
+/// What a buffer holds that begins with these bytes and has the filling in the rest.
+fn filled(buffer: &Buffer, given: &[u8], filling: u8) -> Vec<u8> {
+    let mut content = given.to_vec();
     content.resize(buffer.size * buffer.count, filling);
     content
 }
 
 fn called(case: &Case, lent: &mut [Lent; BUFFERS], null: bool) -> u32 {
-    let [a_count, b_count, c_count, d_count, e_count, out_count, _] = from_fn(|i| lent[i].count());
-    let [a, b, c, d, e, out, length] = from_fn(|i| lent[i].pointer(null));
+    let [a_count, b_count, c_count, d_count, e_count, ledger_count, out_count, _] = from_fn(|i| lent[i].count());
+    let [a, b, c, d, e, ledger, out, beside] = from_fn(|i| lent[i].pointer(null));
     let n = case.numbers;
     let (hash, tag_length) = (n[0] as u32, n[1] as usize);
     // Each pointer has how many elements it is good for beside it, and no two of one call overlap.
@@ -160,8 +205,10 @@ fn called(case: &Case, lent: &mut [Lent; BUFFERS], null: bool) -> u32 {
             9 => tirmuzzle_report_site(a, a_count, n[0], out.cast(), out_count),
             WRITE => tirmuzzle_report_write(
                 hash, n[1] as u32, n[2], n[3], n[4], n[5] as u8, n[6], a, a_count, b.cast(), b_count, c.cast(), c_count,
-                d.cast(), d_count, e, e_count, out, out_count, length.cast(),
+                d.cast(), d_count, e, e_count, out, out_count, beside.cast(),
             ),
+            SUBMIT => tirmuzzle_ledger_submit(ledger.cast(), ledger_count, a, a_count, b, b_count, c, c_count, beside.cast()),
+            TOTAL => tirmuzzle_ledger_total(a.cast(), a_count, beside.cast()),
             _ => panic!("the file has an unknown call"),
         }
     }
@@ -219,6 +266,31 @@ fn wrong_when_read(case: &Case, report: &[u8]) -> Option<String> {
     }
 }
 
+/// What is wrong after a submission, where something is. The total of the ledger must be the sum of its used records, or refused where
+/// the submission was refused for the ledger; and a report that was new or seen must be seen when it is submitted again, which changes
+/// nothing.
+fn wrong_after_submission(case: &Case, answer: u32, lent: &mut [Lent; BUFFERS], null: bool) -> Option<String> {
+    let expected = match &lent[LEDGER] {
+        Lent::Records(records) if answer != NOT_SOUND => {
+            (0, records.iter().filter(|record| record.in_use == 1).map(|record| record.live_bytes).sum())
+        }
+        _ => (NOT_SOUND, 0),
+    };
+    let mut total = u64::MAX;
+    let (records, count) = (lent[LEDGER].pointer(null), lent[LEDGER].count());
+    // As above.
+    let number = unsafe { tirmuzzle_ledger_total(records.cast(), count, &mut total) };
+    if (number, total) != expected {
+        return Some(format!("after the submission the total is {number}, {total}, and not {expected:?}"));
+    }
+    if answer != 0 {
+        return None;
+    }
+    let again = (called(case, lent, null), lent[BESIDE].content(), lent[LEDGER].content());
+    let seen = (0, vec![1, 0, 0, 0], case.buffers[LEDGER].given.to_vec());
+    if again == seen { None } else { Some("the report is not seen when it is submitted again".into()) }
+}
+
 fn hex(bytes: &[u8]) -> String {
     bytes.iter().map(|byte| format!("{byte:02x}")).collect()
 }
@@ -228,8 +300,9 @@ fn wrong(case: &Case, answer: u32, found: &[Vec<u8>; BUFFERS], filling: u8) -> O
         return Some("another answer".into());
     }
     for (place, buffer) in case.buffers.iter().enumerate() {
-        if found[place] != content(buffer, true, filling) {
-            return Some(if place < INPUTS { "an input was changed" } else { "another output or length" }.into());
+        if found[place] != filled(buffer, buffer.given, filling) {
+            let names = ["another ledger", "another output", "another number beside the answer"];
+            return Some(if place < INPUTS { "an input was changed" } else { names[place - INPUTS] }.into());
         }
     }
     let written = case.buffers[OUTPUT].given;
@@ -238,18 +311,23 @@ fn wrong(case: &Case, answer: u32, found: &[Vec<u8>; BUFFERS], filling: u8) -> O
 
 fn run(case: &Case, place: u64, seed: u64) {
     for (filling, null) in [(0x5a, true), (0xc3, false)] {
-        let mut lent = from_fn(|i| Lent::holding(&content(&case.buffers[i], i < INPUTS, filling), case.buffers[i].size));
+        let mut lent = case.buffers.map(|buffer| Lent::holding(&filled(&buffer, buffer.before, filling), buffer.size));
         let answer = called(case, &mut lent, null);
         let found = from_fn(|i| lent[i].content());
-        if let Some(wrong) = wrong(case, answer, &found, filling) {
+        let mut wrong = wrong(case, answer, &found, filling);
+        if wrong.is_none() && case.call == SUBMIT {
+            wrong = wrong_after_submission(case, answer, &mut lent, null);
+        }
+        if let Some(wrong) = wrong {
             eprintln!("caller.rs: case {place}, {}: {wrong}", NAMES[case.call]);
             eprintln!("  numbers in the order of the parameters, then zeros: {:?}", case.numbers);
             for input in &case.buffers[..INPUTS] {
                 eprintln!("  input, {} bytes: {}", input.given.len(), hex(input.given));
             }
+            eprintln!("  ledger before the call: {}", hex(case.buffers[LEDGER].before));
             eprintln!("  expected answer: {}, found: {answer}", case.answer);
-            for output in OUTPUT..BUFFERS {
-                eprintln!("  expected output: {}", hex(&content(&case.buffers[output], true, filling)));
+            for output in LEDGER..BUFFERS {
+                eprintln!("  expected output: {}", hex(&filled(&case.buffers[output], case.buffers[output].given, filling)));
                 eprintln!("  found output:    {}", hex(&found[output]));
             }
             eprintln!("  again: tests/outside/run --seed {seed} --case {place}");
@@ -258,7 +336,21 @@ fn run(case: &Case, place: u64, seed: u64) {
     }
 }
 
+/// Ends the program where a record has another layout than the header promises.
+fn check_layout() {
+    let record = Record::holding(&[0; 48]);
+    let start = ptr::addr_of!(record) as usize;
+    let fields = [
+        ptr::addr_of!(record.fingerprint) as usize,
+        ptr::addr_of!(record.live_bytes) as usize,
+        ptr::addr_of!(record.in_use) as usize,
+    ];
+    assert_eq!(size_of::<Record>(), 48, "a record has another size");
+    assert_eq!(fields.map(|field| field - start), [0, 32, 40], "the fields of a record stand in other places");
+}
+
 fn main() {
+    check_layout();
     let words: Vec<String> = std::env::args().collect();
     let only: Option<u64> = match words.len() {
         2 => None,

@@ -10,12 +10,14 @@ in 8, how many cases in 4, and then the cases one after the other, each as
     4   the number that it must answer
     56  the numbers that it takes, 8 bytes each, in the order of the C parameters, then zeros up to seven
     60  the inputs, in the order of the C parameters, up to five
-    24  the outputs, up to two: the second is what length points to
-        then, input by input and output by output, the elements that the file gives
+    12  the ledger that a report is submitted to
+    24  the outputs, up to two: the second is what length, seen or total points to
+        then, buffer by buffer in this order, the elements that the file gives
 
-with 12 bytes for an input or output, all of them 0 where the call has none: how many bytes an element has (1, 4 or 8), how many
-elements there are, and how many of them the file gives. Of an input it gives all, and of an output those that the call must write:
-from the first on, and none where it must write nothing. The others must stay as they were.
+with 12 bytes for a buffer, all of them 0 where the call has none: how many bytes an element has (1, 4, 8, or 48 of a record), how
+many elements there are, and how many the file gives. Of an input it gives all; of a ledger all as they are before the call, and then
+all as they must be after it; and of an output those that the call must write: from the first on, and none where it must write nothing.
+The others must stay as they were.
 
 A caller hands an empty buffer over as NULL and as a pointer by turns, so that no case says which."""
 import collections
@@ -28,6 +30,7 @@ import sys
 sys.dont_write_bytecode = True  # tests/ holds sources only
 sys.path.insert(0, str(pathlib.Path(__file__).resolve().parent.parent))
 import answers
+import ledger_cases
 import report_rules
 from report_cases import (
     FAULTS, FREE_FIELDS, KEY, LAYOUT, MOST_REPORT_BYTES, WORKED, big, counted, faulty, made, of_length, site, with_byte,
@@ -39,6 +42,7 @@ SEED = 20180
 CALLS = (
     "digest", "tag", "verify", "extract", "expand",
     "report_fingerprint", "report_keys", "report_check", "report_read", "report_site", "report_write",
+    "ledger_submit", "ledger_total",
 )
 # The numbers that each call can be brought to answer here. 3 and 4 take more than 4 GiB, and are left to limits.c.
 READING = (0, 2, 11, 12, 13, 14, 15, 16)
@@ -46,11 +50,13 @@ NUMBERS = dict(
     digest=(0, 2, 6), tag=(0, 2, 5, 6), verify=(0, 1, 2, 5, 6), extract=(0, 2, 6), expand=(0, 2, 7, 8, 9),
     report_fingerprint=READING + (6,), report_keys=(0, 2, 6, 7), report_check=READING + (1,), report_read=READING + (6,),
     report_site=READING + (17, 6), report_write=(0, 2, 6, 13, 14, 15, 16, 18),
+    ledger_submit=READING + (1, 10, 19, 20), ledger_total=(0, 10),
 )
-# How many buffers each call takes, inputs and output together.
+# How many buffers each call takes, inputs, ledger and output together.
 BUFFERS = dict(
     digest=2, tag=3, verify=3, extract=3, expand=3,
     report_fingerprint=3, report_keys=2, report_check=2, report_read=2, report_site=2, report_write=6,
+    ledger_submit=4, ledger_total=1,
 )
 # How many numbers, inputs and outputs a case has in the file.
 MOST_NUMBERS, MOST_INPUTS, MOST_OUTPUTS = 7, 5, 2
@@ -61,10 +67,10 @@ LONG_LENGTHS = (1000, 4097, 20000)
 LONGEST_LENGTHS = (65535, 65536, 2**20 - 1, 2**20)
 BEYOND_32_BITS = (2**32, 2**32 + 16, 2**32 + 32, 2**63, 2**64 - 1)
 
-# An input or an output: the bytes of an element, how many elements there are, and the bytes of those that the file gives.
+# An input, a ledger or an output: the bytes of an element, how many elements there are, and the bytes of those that the file gives.
 Buffer = collections.namedtuple("Buffer", "size count given")
 NO_BUFFER = Buffer(0, 0, b"")
-Case = collections.namedtuple("Case", "call answer numbers inputs outputs")
+Case = collections.namedtuple("Case", "call answer numbers inputs outputs ledger", defaults=[NO_BUFFER])
 # Sites as report_write takes them.
 Columns = collections.namedtuple("Columns", "labels lengths live blocks")
 
@@ -80,6 +86,12 @@ def of_bytes(content):
 
 def of_numbers(numbers, size):
     return Buffer(size, len(numbers), answers.in_words(numbers, size))
+
+
+def of_ledgers(*ledgers):
+    """A ledger, or the same before and after a call."""
+    given = b"".join(ledger_cases.spelled(record) for ledger in ledgers for record in ledger)
+    return Buffer(ledger_cases.RECORD_BYTES, len(ledgers[0]), given)
 
 
 def case(call, answered, numbers, inputs, places=None, size=1):
@@ -151,6 +163,16 @@ def write_again(report, key, size=None):
     again = write(fields[2:9], columns, key, len(report) if size is None else size)
     hold(again.answer == 18 or again.outputs[0].given == report, "a report read and written again is another")
     return again
+
+
+def submit(submission):
+    inputs = [of_bytes(submission.report), of_bytes(submission.tag_key), of_bytes(submission.fingerprint_key)]
+    outputs = [NO_BUFFER, of_numbers([submission.seen], 4)]
+    return Case("ledger_submit", submission.number, [], inputs, outputs, of_ledgers(submission.ledger, submission.after))
+
+
+def total(asked):
+    return Case("ledger_total", asked.number, [], [of_ledgers(asked.ledger)], [NO_BUFFER, of_numbers([asked.total], 8)])
 
 
 def block_edges(hash):
@@ -579,11 +601,16 @@ def retries(source):
             yield write_again(report, key)
 
 
+def ledgers(source):
+    for given in ledger_cases.cases(source):
+        yield submit(given) if isinstance(given, ledger_cases.Submission) else total(given)
+
+
 def all_cases(source):
     for part in (
         digests, tags, verifications, extractions, expansions, key_pairs, good_reports, report_keys_of_every_length,
         damaged_reports, two_damages, noise, sums, written_fields, written_buffers, unequal_columns, written_label_lengths,
-        written_labels, two_faults_of_writing, drawn_writes, retries,
+        written_labels, two_faults_of_writing, drawn_writes, retries, ledgers,
     ):
         yield from part(source)
 
@@ -599,7 +626,7 @@ def hold_to_numbers(cases):
     hold(len(reached) == sum(map(len, NUMBERS.values())), "a call answers a number that is not its own")
     empty = collections.Counter()
     for case in cases:
-        buffers = case.inputs + case.outputs[:1]
+        buffers = [buffer for buffer in [*case.inputs, case.ledger, *case.outputs[:1]] if buffer.size > 0]
         hold(len(buffers) == BUFFERS[case.call], f"a case of {case.call} has another number of buffers")
         empty.update((case.call, place) for place, buffer in enumerate(buffers) if buffer.count == 0)
     for call, buffers in BUFFERS.items():
@@ -612,7 +639,8 @@ def filled_up(given, count, filling):
 
 
 def record(case):
-    buffers = filled_up(case.inputs, MOST_INPUTS, NO_BUFFER) + filled_up(case.outputs, MOST_OUTPUTS, NO_BUFFER)
+    inputs, outputs = filled_up(case.inputs, MOST_INPUTS, NO_BUFFER), filled_up(case.outputs, MOST_OUTPUTS, NO_BUFFER)
+    buffers = [*inputs, case.ledger, *outputs]
     head = struct.pack(f"<II{MOST_NUMBERS}Q", CALLS.index(case.call), case.answer, *filled_up(case.numbers, MOST_NUMBERS, 0))
     for size, count, given in buffers:
         head += struct.pack("<III", size, count, len(given) // max(size, 1))

@@ -3,7 +3,7 @@
  *     limits           the side that is refused, before any byte is read; and reports that are longer than a count can say
  *     limits --taken   the side that is taken, where each call reads four gigabytes
  *
- * The long buffers are one mapping of zeros, of which pages that nothing was written to take no room. */
+ * The long buffers are one mapping of zeros, of which pages that nothing was written to take no room, and one that may not be read. */
 #define _DEFAULT_SOURCE
 #include "tirmuzzle.h"
 
@@ -15,9 +15,10 @@
 #define MOST 4294967295u
 enum { MARGIN = 4096, SHA512_BLOCK = 128, FULL = TIRMUZZLE_SHA512_DIGEST, OUT = 2 * FULL, FILLING = 0xa5 };
 enum { SITES = 2, REPORT = 106 }; /* of the report that is written, under SHA-512 */
+enum { FREE, USED, UNSOUND };     /* in_use of a ledger's only record: the ledger is empty, full, or not sound */
 
 static const uint8_t abc[] = {'a', 'b', 'c'}, key[] = {'k', 'e', 'y'};
-static uint8_t *zeros, out[OUT];
+static uint8_t *zeros, *unreadable, out[OUT];
 static uint64_t words[TIRMUZZLE_FIELDS];
 static int calls;
 
@@ -76,6 +77,19 @@ static void refused_lengths(uint32_t hash, size_t digest, size_t block)
     refuses("no hash, and too long a key", 2, tirmuzzle_tag(hash + 2, zeros, over, abc, 3, digest, out, digest));
 }
 
+/* What a submission that is refused answers. It leaves the ledger as it was, and writes 0 to seen. */
+static uint32_t submitting(uint64_t in_use, const uint8_t *report, size_t report_length, const uint8_t *tag_key,
+                           size_t tag_key_length, const uint8_t *fingerprint_key, size_t fingerprint_key_length)
+{
+    struct tirmuzzle_record record = {{0}, 0, in_use}, before = record;
+    uint32_t seen = MOST;
+    uint32_t answer = tirmuzzle_ledger_submit(&record, 1, report, report_length, tag_key, tag_key_length, fingerprint_key,
+                                              fingerprint_key_length, &seen);
+    require(seen == 0, "submit, seen");
+    require(memcmp(&record, &before, sizeof record) == 0, "submit, ledger");
+    return answer;
+}
+
 /* The smallest report under a key that is too long; then as the beginning of one that is 4 GiB longer than its count says. */
 static void refused_reports(void)
 {
@@ -91,6 +105,42 @@ static void refused_reports(void)
     refuses("site, longer", 11, tirmuzzle_report_site(zeros, longer, 0, words, TIRMUZZLE_SITE_NUMBERS));
     refuses("check, longer", 11, tirmuzzle_report_check(zeros, longer, key, 3));
     refuses("fingerprint, longer", 11, tirmuzzle_report_fingerprint(zeros, longer, key, 3, out, 32));
+    refuses("submit, longer", 11, submitting(FREE, zeros, longer, key, 3, key, 3));
+    refuses("submit, longer, and an unsound ledger", 10, submitting(UNSOUND, zeros, longer, key, 3, key, 3));
+}
+
+/* Keys that are too long for a submission, each alone, and beside earlier and later refusals; then the longest keys, which are not
+ * read where something is refused before them. */
+static void refused_submissions(uint32_t hash)
+{
+    size_t over = (size_t)MOST + 1;
+    uint8_t report[REPORT];
+    uint64_t length;
+    require(tirmuzzle_report_write(hash, 7, 258, 9, 1000, 0, 1 << 30, NULL, 0, NULL, 0, NULL, 0, NULL, 0, key, 3, report,
+                                   sizeof report, &length) == TIRMUZZLE_DONE,
+            "a report without sites");
+    refuses("submit, tag key", 3, submitting(FREE, report, length, unreadable, over, key, 3));
+    refuses("submit, both keys", 3, submitting(FREE, report, length, unreadable, over, unreadable, over));
+    refuses("submit, tag key and a full ledger", 3, submitting(USED, report, length, unreadable, over, key, 3));
+    refuses("submit, tag key and a short report", 11, submitting(FREE, report, length - 1, unreadable, over, key, 3));
+    refuses("submit, tag key and an unsound ledger", 10, submitting(UNSOUND, report, length, unreadable, over, key, 3));
+    refuses("submit, fingerprint key", 3, submitting(FREE, report, length, key, 3, unreadable, over));
+    refuses("submit, fingerprint key and a full ledger", 3, submitting(USED, report, length, key, 3, unreadable, over));
+    refuses("submit, fingerprint key and another tag", 1, submitting(FREE, report, length, abc, 3, unreadable, over));
+    refuses("submit, fingerprint key and a short report", 11, submitting(FREE, report, length - 1, key, 3, unreadable, over));
+    refuses("submit, fingerprint key and an unsound ledger", 10, submitting(UNSOUND, report, length, key, 3, unreadable, over));
+    refuses("submit, longest keys and a short report", 11, submitting(FREE, report, length - 1, unreadable, MOST, unreadable, MOST));
+    refuses("submit, tag key, longest fingerprint key", 3, submitting(FREE, report, length, unreadable, over, unreadable, MOST));
+    refuses("submit, longest fingerprint key and another tag", 1, submitting(FREE, report, length, abc, 3, unreadable, MOST));
+}
+
+/* An unsound ledger is refused before a byte of the report or of a key is read. */
+static void refused_ledger(void)
+{
+    refuses("submit, an unsound ledger and nothing to read", 10,
+            submitting(UNSOUND, unreadable, TIRMUZZLE_LARGEST_REPORT, unreadable, MOST, unreadable, MOST));
+    refuses("submit, an unsound ledger and more that is refused", 10,
+            submitting(UNSOUND, unreadable, MOST, unreadable, (size_t)MOST + 1, unreadable, (size_t)MOST + 1));
 }
 
 /* What writing a report answers, of two sites with these live bytes each and these labels, under a key of zeros. */
@@ -140,13 +190,21 @@ static void taken_lengths(void)
           "00000000000500000004285c7cf5ad62bc951e55ff178bb2a49a9262f8dfc5a3"
           "e7a865b48ed4fce789d8",
           writing(TIRMUZZLE_SHA512, 5, abc, 3, MOST, OUT));
+    struct tirmuzzle_record record = {{0}, 0, FREE};
+    uint32_t seen = MOST;
+    uint32_t answer = tirmuzzle_ledger_submit(&record, 1, out, REPORT, zeros, MOST, zeros, MOST, &seen);
+    require(seen == 0 && record.live_bytes == SITES * 5 && record.in_use == USED, "submit under the longest keys, record");
+    memcpy(out, record.fingerprint, sizeof record.fingerprint);
+    gives("fingerprint of that report, submitted under the longest keys",
+          "db1e6a3cb520f1d084c5b59ada35ab73e1fcea968f01ddde6228713550fda956", answer);
 }
 
 int main(int count, char **arguments)
 {
     require(count == 1 || (count == 2 && strcmp(arguments[1], "--taken") == 0), "usage: limits [--taken]");
     zeros = mmap(NULL, (size_t)MOST + MARGIN, PROT_READ | PROT_WRITE, MAP_PRIVATE | MAP_ANONYMOUS | MAP_NORESERVE, -1, 0);
-    require(zeros != MAP_FAILED, "no room for a mapping of 4 GiB");
+    unreadable = mmap(NULL, (size_t)MOST + MARGIN, PROT_NONE, MAP_PRIVATE | MAP_ANONYMOUS | MAP_NORESERVE, -1, 0);
+    require(zeros != MAP_FAILED && unreadable != MAP_FAILED, "no room for two mappings of 4 GiB");
     memset(out, FILLING, OUT);
     if (count == 1) {
         refused_lengths(TIRMUZZLE_SHA256, TIRMUZZLE_SHA256_DIGEST, 64);
@@ -154,6 +212,9 @@ int main(int count, char **arguments)
         refused_reports();
         refused_writing(TIRMUZZLE_SHA256);
         refused_writing(TIRMUZZLE_SHA512);
+        refused_submissions(TIRMUZZLE_SHA256);
+        refused_submissions(TIRMUZZLE_SHA512);
+        refused_ledger();
     } else {
         taken_lengths();
     }

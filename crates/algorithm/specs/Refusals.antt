@@ -78,6 +78,14 @@ noSuchSite = 17
 abbrev pub bufferTooShort : ℕ
 bufferTooShort = 18
 
+-- the ledger has no free record
+abbrev pub ledgerFull : ℕ
+ledgerFull = 19
+
+-- the sum of the ledger's live bytes would be over 2^64 - 1
+abbrev pub totalTooLarge : ℕ
+totalTooLarge = 20
+
 -- the most bytes of a key, and the most bytes hashed in all (refusals 3 and 4)
 abbrev pub mostBytes : ℕ
 mostBytes = 4294967295

@@ -39,6 +39,10 @@ pub const SUM_TOO_LARGE: u32 = 16;
 pub const NO_SUCH_SITE: u32 = 17;
 // The buffer is too short for the report.
 pub const BUFFER_TOO_SHORT: u32 = 18;
+// The ledger has no free record.
+pub const LEDGER_FULL: u32 = 19;
+// The sum of the ledger's live bytes would be over 2^64 - 1.
+pub const TOTAL_TOO_LARGE: u32 = 20;
 
 // The most bytes of a key, and the most bytes hashed in all (refusals 3 and 4).
 pub const MOST_BYTES: u64 = 4294967295;

@@ -4,6 +4,8 @@ ghost use Rattle.hmac.specs.Calls.{TagMessageOutcome, VerifyMessageOutcome};
 ghost use Rattle.hkdf.specs.Calls.{ExtractOutcome, ExpandOutcome};
 ghost use Rattle.report.specs.Calls.{ReadIntoOutcome, SiteIntoOutcome, CheckOutcome, FingerprintOutcome, KeysOutcome, WriteOutcome};
 ghost use Rattle.report.specs.Writing.{columns};
+ghost use Rattle.ledger.specs.Calls.{SubmitShownOutcome, TotalOutcome};
+use ledger::Record;
 use report::Heading;
 
 #[no_mangle]
@@ -137,4 +139,28 @@ pub extern "C" fn tirmuzzle_report_site(report: &[u8], place: u64, site: &mut [u
     ensures { λ r. ⌜ SiteIntoOutcome (now (report .entry)) place (now (site .entry)) r (now (site .exit)) ⌝ }
 {
     report::site_into(report, place, site)
+}
+
+#[no_mangle]
+pub extern "C" fn tirmuzzle_ledger_submit(
+    records: &mut [Record],
+    report: &[u8],
+    tag_key: &[u8],
+    fingerprint_key: &[u8],
+    seen: &mut u32,
+) -> u32
+    ensures { λ r. ⌜ SubmitShownOutcome (now (records .entry)) (now (report .entry)) (now («tag_key» .entry)) (now («fingerprint_key» .entry)) r (now (seen .exit)) (now (records .exit)) ⌝ }
+{
+    let answer = ledger::submit(records, report, tag_key, fingerprint_key);
+    *seen = ledger::answer_seen(answer);
+    ledger::answer_number(answer)
+}
+
+#[no_mangle]
+pub extern "C" fn tirmuzzle_ledger_total(records: &[Record], total: &mut u64) -> u32
+    ensures { λ r. ⌜ TotalOutcome (now (records .entry)) (record { number = r; total = now (total .exit) }) ⌝ }
+{
+    let summed = ledger::total(records);
+    *total = summed.total;
+    summed.number
 }

@@ -2,25 +2,18 @@
 -- exactly when all pass; and no second outcome meets an equation that a first one meets. Assumes nothing.
 use mathlib.Core.Path.{_≡_, refl, sym, subst, _∙_}
 use mathlib.Core.Logic.{_↔_}
-use mathlib.Core.Bool.{Bool, true, false}
+use mathlib.Core.Bool.{Bool}
 use mathlib.Core.List.{List, [], _∷_, _++_}
 use Prim.Native.Nat.{ℕ, suc}
 use native.Mathlib.Omega.{arith}
 use borrow.Author.Tests.{eq-eqb, ne-eqb}
+use Rattle.algorithm.specs.Cases.Laws.{test}
+use Rattle.algorithm.specs.Cases.Test.{yes, no}
 use Rattle.algorithm.specs.Refusals.{done}
 use Rattle.algorithm.specs.Checks.{Check, check, firstFailing, decided, written, answered, Pass, Fail, Refusing}
 use Rattle.algorithm.specs.Checks.Pass.{all, and}
 use Rattle.algorithm.specs.Checks.Fail.{here, later}
 use Rattle.algorithm.specs.Checks.Refusing.{none, more}
-
--- a test came out one way or the other
-data Test (b : Bool) : Type 0 where
-  yes : b ≡ true → Test b
-  no : b ≡ false → Test b
-
-test : (b : Bool) → Test b
-test true = yes refl
-test false = no refl
 
 pub fails-number : {cs : List Check} {n : ℕ} → Fail cs n → firstFailing cs ≡ n
 fails-number (here e) = rw e

@@ -35,3 +35,9 @@ equal-tells a b = record { true-equal = equal-true a b; equal-true = λ e. ap (e
 -- so an answer that tells it is the test's
 pub tells-equal : {r : Bool} (a b : List ℕ) → Tells r a b → r ≡ equal a b
 tells-equal {r} a b t = tells-one r (equal a b) t (equal-tells a b)
+
+-- the test does not ask which list comes first
+pub equal-sym : (a b : List ℕ) → equal a b ≡ equal b a
+equal-sym a b =
+    let t = equal-tells a b in
+    tells-equal b a (record { true-equal = λ e. sym (t .true-equal e); equal-true = λ e. t .equal-true (sym e) })
