@@ -132,7 +132,7 @@ def other_reports(hash, source):
     yield submitted(ledger, made(hash=3 - hash), NEW)
 
 
-def keys(hash, source):
+def key_lengths(hash, source):
     """Keys of many lengths, the empty ones too. Under another tag key the tag differs, and under another fingerprint key a report that
     was counted is new."""
     for tag_key, fingerprint_key in itertools.product(map(pattern, KEY_LENGTHS), repeat=2):
@@ -357,6 +357,6 @@ def storms(source):
 def cases(source):
     """Every submission and every total. The same draws give the same cases."""
     for hash in HASHES:
-        for part in (sizes, other_fingerprints, other_reports, keys, sums, lent_ledgers, changed_ledgers, orders):
+        for part in (sizes, other_fingerprints, other_reports, key_lengths, sums, lent_ledgers, changed_ledgers, orders):
             yield from part(hash, source)
     yield from storms(source)

@@ -616,14 +616,17 @@ def all_cases(source):
 
 
 def hold_to_numbers(cases):
-    """Every number that a call can answer is reached at least twice, and each of its buffers is empty at least once.
-    Prints how often each number is."""
+    """Every number that a call can answer is reached at least twice, a report is new and seen at least twice, and each buffer of a call
+    is empty at least once. Prints how often each number is."""
     reached = collections.Counter((case.call, case.answer) for case in cases)
     for call, numbers in NUMBERS.items():
         print(f"{call}: " + ", ".join(f"{number} {reached[call, number]} times" for number in sorted(numbers)))
         for number in numbers:
             hold(reached[call, number] >= 2, f"{call} answers {number} fewer than two times")
     hold(len(reached) == sum(map(len, NUMBERS.values())), "a call answers a number that is not its own")
+    counting = [case.outputs[1].given for case in cases if case.call == "ledger_submit" and case.answer == 0]
+    print(f"ledger_submit: new {counting.count(bytes(4))} times, seen {counting.count(bytes([1, 0, 0, 0]))} times")
+    hold(min(map(counting.count, (bytes(4), bytes([1, 0, 0, 0])))) >= 2, "a report is new or seen fewer than two times")
     empty = collections.Counter()
     for case in cases:
         buffers = [buffer for buffer in [*case.inputs, case.ledger, *case.outputs[:1]] if buffer.size > 0]
@@ -638,7 +641,7 @@ def filled_up(given, count, filling):
     return given + [filling] * (count - len(given))
 
 
-def record(case):
+def spelled(case):
     inputs, outputs = filled_up(case.inputs, MOST_INPUTS, NO_BUFFER), filled_up(case.outputs, MOST_OUTPUTS, NO_BUFFER)
     buffers = [*inputs, case.ledger, *outputs]
     head = struct.pack(f"<II{MOST_NUMBERS}Q", CALLS.index(case.call), case.answer, *filled_up(case.numbers, MOST_NUMBERS, 0))
@@ -653,7 +656,7 @@ def main(arguments):
     seed = int(arguments[1]) if len(arguments) == 2 else SEED
     cases = list(all_cases(random.Random(seed)))
     hold_to_numbers(cases)
-    content = b"TIRMUZZL" + struct.pack("<QI", seed, len(cases)) + b"".join(map(record, cases))
+    content = b"TIRMUZZL" + struct.pack("<QI", seed, len(cases)) + b"".join(map(spelled, cases))
     pathlib.Path(arguments[0]).write_bytes(content)
     print(f"{len(cases)} cases, {len(content)} bytes, seed {seed}")
 
