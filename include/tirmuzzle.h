@@ -116,12 +116,13 @@ typedef char tirmuzzle_record_has_48_bytes[sizeof(struct tirmuzzle_record) == 48
 /* ---- For agents ---- */
 
 /* The first tag_length bytes of the HMAC of a message. out has exactly tag_length bytes.
- * Refuses with 2, 3, 4, 5, 6, in this order. */
+ * Refuses with 2, 3, 5, 4, 6, in this order: tag_length is checked with the key, before the message. */
 uint32_t tirmuzzle_tag(uint32_t hash, const uint8_t *key, size_t key_length, const uint8_t *message, size_t message_length,
                        size_t tag_length, uint8_t *out, size_t out_length);
 
 /* Whether a presented tag is the message's, of exactly tag_length bytes: 0 where it is, 1 where it is not.
- * Refuses with 2, 3, 4, 5, 6, in this order; 1 is the last check of all. */
+ * Refuses with 2, 3, 5, 4, 6, in this order, as tirmuzzle_tag does; 1 is the last check of all. tag_length is the length that the
+ * caller's protocol requires: where no earlier check fails, a tag of any other length gets 6, never 0 or 1. */
 uint32_t tirmuzzle_verify(uint32_t hash, const uint8_t *key, size_t key_length, const uint8_t *message, size_t message_length,
                           size_t tag_length, const uint8_t *tag, size_t presented_length);
 

@@ -80,78 +80,92 @@ def whole_tag(number, key, message):
 class Keyed:
     """A keyed state of work in pieces (docs/PROTOCOL.md), which no call changes."""
 
-    def __init__(self, inner, outer):
-        self.hash, self.inner, self.outer = inner.hash, inner, list(outer)
+    def __init__(self, inner, tag_length, outer):
+        self.hash, self.inner, self.tag_length, self.outer = inner.hash, inner, tag_length, list(outer)
 
     def sound(self):
         return (
             self.inner.sound()
             and self.inner.count >= self.hash.block
             and all(x < 2**self.hash.width for x in self.outer)
+            and self.tag_length in LENGTHS[number_of(self.hash)]
         )
 
     def same(self, other):
-        return self.inner.same(other.inner) and self.outer == other.outer
+        return self.inner.same(other.inner) and (self.tag_length, self.outer) == (other.tag_length, other.outer)
 
     def full(self):
-        """The full tag of a sound one."""
+        """The full tag of a sound one, of which its tag is the beginning."""
         _, inside = hash_vectors.finish(self.inner, self.hash.size)
         _, outer = hash_vectors.update(State(self.hash, self.outer, self.hash.block, b""), inside)
         return hash_vectors.finish(outer, self.hash.size)[1]
 
     def __str__(self):
-        return f"HMAC-{self.inner}, outer words {' '.join(f'{x:016x}' for x in self.outer)}"
+        words = " ".join(f"{x:016x}" for x in self.outer)
+        return f"HMAC-{self.inner}, outer words {words}, tag length {self.tag_length}"
 
 
-def start(number, key):
-    if number not in HASHES:
-        return 2, Keyed(State(HASHES[1], [0] * 8, 0, b""), [0] * 8)
+def start(number, key, tag_length):
+    refusal = 2 if number not in HASHES else 5 if tag_length not in LENGTHS[number] else 0
+    if refusal:
+        return refusal, Keyed(State(HASHES[1], [0] * 8, 0, b""), 0, [0] * 8)
     hash = HASHES[number]
     inner, _ = hash.after(hash.first, pad(number, key, 0x36))
     outer, _ = hash.after(hash.first, pad(number, key, 0x5C))
-    return 0, Keyed(State(hash, inner, hash.block, b""), outer)
+    return 0, Keyed(State(hash, inner, hash.block, b""), tag_length, outer)
 
 
 def update(keyed, piece):
     if not keyed.sound():
         return 10, keyed
     refusal, inner = hash_vectors.update(keyed.inner, piece)
-    return refusal, Keyed(inner, keyed.outer)
+    return refusal, Keyed(inner, keyed.tag_length, keyed.outer)
 
 
-def refused(keyed, tag_length, size):
-    """The number with which a tag of this length in so many bytes is refused, or 0."""
+def refused(keyed, size):
+    """The number with which a tag in so many bytes is refused, or 0."""
     if not keyed.sound():
         return 10
-    if tag_length not in LENGTHS[number_of(keyed.hash)]:
-        return 5
-    return 0 if size == tag_length else 6
+    return 0 if size == keyed.tag_length else 6
 
 
-def tag(keyed, tag_length, size):
+def tag(keyed, size):
     """The number, and what an output of this size then holds."""
-    refusal = refused(keyed, tag_length, size)
-    return refusal, bytes([UNTOUCHED]) * size if refusal else keyed.full()[:tag_length]
+    refusal = refused(keyed, size)
+    return refusal, bytes([UNTOUCHED]) * size if refusal else keyed.full()[: keyed.tag_length]
 
 
-def verify(keyed, tag_length, presented):
-    refusal = refused(keyed, tag_length, len(presented))
-    return refusal or int(presented != keyed.full()[:tag_length])
+def verify(keyed, presented):
+    refusal = refused(keyed, len(presented))
+    return refusal or int(presented != keyed.full()[: keyed.tag_length])
 
 
-def taken(number, key, message):
-    refusal, keyed = start(number, key)
+def taken(number, key, message, tag_length):
+    refusal, keyed = start(number, key, tag_length)
     return (refusal, keyed) if refusal else update(keyed, message)
 
 
+def message_refused(number, key, message, tag_length, size):
+    """The number with which a whole message is refused, or 0: the list of docs/PROTOCOL.md, and no work in pieces."""
+    if number not in HASHES:
+        return 2
+    if len(key) > MOST_BYTES:
+        return 3
+    if tag_length not in LENGTHS[number]:
+        return 5
+    if len(message) > MOST_BYTES - HASHES[number].block:
+        return 4
+    return 0 if size == tag_length else 6
+
+
 def tag_message(number, key, message, tag_length, size):
-    refusal, keyed = taken(number, key, message)
-    return (refusal, bytes([UNTOUCHED]) * size) if refusal else tag(keyed, tag_length, size)
+    refusal = message_refused(number, key, message, tag_length, size)
+    return refusal, bytes([UNTOUCHED]) * size if refusal else whole_tag(number, key, message)[:tag_length]
 
 
 def verify_message(number, key, message, tag_length, presented):
-    refusal, keyed = taken(number, key, message)
-    return refusal or verify(keyed, tag_length, presented)
+    refusal = message_refused(number, key, message, tag_length, len(presented))
+    return refusal or int(presented != whole_tag(number, key, message)[:tag_length])
 
 
 def pattern(length):
@@ -162,7 +176,8 @@ def hold_to_library(number, key, message):
     known = hmac.new(key, message, {1: hashlib.sha256, 2: hashlib.sha512}[number]).digest()
     what = f"{name(HASHES[number])} of {len(message)} bytes under a key of {len(key)}"
     hold(whole_tag(number, key, message) == known, f"{what} is not that of the hmac module")
-    hold(tag_message(number, key, message, len(known), len(known)) == (0, known), f"{what} differs in pieces")
+    _, keyed = taken(number, key, message, len(known))
+    hold(tag(keyed, len(known)) == (0, known), f"{what} differs in pieces")
 
 
 def hold_to_others():
@@ -187,7 +202,13 @@ def changed(tag, places):
 def with_last(keyed, byte):
     """The same with another byte at the last place, where none waits."""
     inner = keyed.inner
-    return Keyed(State(inner.hash, inner.words, inner.count, inner.waiting[:-1] + bytes([byte])), keyed.outer)
+    waiting = inner.waiting[:-1] + bytes([byte])
+    return Keyed(State(inner.hash, inner.words, inner.count, waiting), keyed.tag_length, keyed.outer)
+
+
+def with_length(keyed, tag_length):
+    """The same with another tag length."""
+    return Keyed(keyed.inner, tag_length, keyed.outer)
 
 
 def back(refusal, given, handed):
@@ -204,19 +225,19 @@ def case_lines(number, place, key, message):
     wrong = changed(made, [0])
     yield f"{head} verified with the first byte changed: {verify_message(number, key, message, size, wrong)}"
     middle = len(message) // 2
-    _, half = update(start(number, key)[1], message[:middle])
+    _, half = update(start(number, key, size)[1], message[:middle])
     unsound = with_last(half, 1)
     refusal, handed = update(unsound, message[middle:])
     _, whole = update(with_last(handed, 0), message[middle:])
     way = "cut in the middle with a refused piece between"
-    yield f"{head} {way}: {back(refusal, unsound, handed)}, then {answer(*tag(whole, size, size))}"
-    _, keyed = start(number, key)
+    yield f"{head} {way}: {back(refusal, unsound, handed)}, then {answer(*tag(whole, size))}"
+    _, keyed = start(number, key, size)
     for byte in message:
         _, keyed = update(keyed, bytes([byte]))
-    yield f"{head} byte by byte: {answer(*tag(keyed, size, size))}"
-    yield f"{head} the tag of the first half: {answer(*tag(half, size, size))}"
+    yield f"{head} byte by byte: {answer(*tag(keyed, size))}"
+    yield f"{head} the tag of the first half: {answer(*tag(half, size))}"
     _, whole = update(half, message[middle:])
-    yield f"{head} the tag after the second half: {answer(*tag(whole, size, size))}"
+    yield f"{head} the tag after the second half: {answer(*tag(whole, size))}"
 
 
 def cases(number):
@@ -224,13 +245,12 @@ def cases(number):
         yield from case_lines(number, place, key, message)
 
 
-def tag_lines(keyed):
-    """The full tag, and its comparison with itself and with one that differs in the last byte."""
-    size = keyed.hash.size
-    refusal, made = tag(keyed, size, size)
+def tag_lines(keyed, size):
+    """The tag in so many bytes, and its comparison with itself and with one that differs in the last byte."""
+    refusal, made = tag(keyed, size)
     yield f"  tag: {answer(refusal, made)}"
-    yield f"  verify: {verify(keyed, size, made)}"
-    yield f"  verify with the last byte changed: {verify(keyed, size, changed(made, [size - 1]))}"
+    yield f"  verify: {verify(keyed, made)}"
+    yield f"  verify with the last byte changed: {verify(keyed, changed(made, [size - 1]))}"
 
 
 def piece_line(keyed, piece):
@@ -238,21 +258,44 @@ def piece_line(keyed, piece):
     return f"  update, length {len(piece)}: {back(refusal, keyed, after)}", after
 
 
-def going_on(keyed):
+def going_on(keyed, size):
     yield "  sound" if keyed.sound() else "  not sound"
-    yield from tag_lines(keyed)
+    yield from tag_lines(keyed, size)
     line, after = piece_line(keyed, MESSAGE)
     yield line
-    yield from tag_lines(after)
+    yield from tag_lines(after, size)
 
 
 def starts():
     for number in (0, 1, 2, 3, 4294967295):
-        refusal, keyed = start(number, KEY)
+        refusal, keyed = start(number, KEY, 32)
         yield f"start for hash {number}: {refusal}, {keyed}"
-        yield from going_on(keyed)
+        yield from going_on(keyed, 32)
         yield f'  tag_message of "abc": {answer(*tag_message(number, KEY, MESSAGE, 32, 32))}'
         yield f'  verify_message of "abc" with zeros: {verify_message(number, KEY, MESSAGE, 32, bytes(32))}'
+        refusal, keyed = start(number, KEY, 1)
+        yield f"  for tags of length 1: {refusal}, {keyed}"
+
+
+# Tag lengths on both sides of each range, and the largest number.
+EDGES = (0, 1, 15, 16, 17, 31, 32, 33, 63, 64, 65, 66, 2**64 - 1)
+
+
+def lengths(number):
+    """A start for each tag length."""
+    for tag_length in EDGES:
+        refusal, keyed = start(number, KEY, tag_length)
+        yield f"start for hash {number} and tags of length {tag_length}: {refusal}, {keyed}"
+        yield from going_on(keyed, min(tag_length, 66))
+
+
+def state_lengths(number):
+    """A sound state of words of its own, with each tag length in turn."""
+    hash = HASHES[number]
+    for tag_length in EDGES:
+        keyed = Keyed(State(hash, range(1, 9), 200, bytes(range(1, 200 % hash.block + 1))), tag_length, range(9, 17))
+        yield str(keyed)
+        yield from going_on(keyed, min(tag_length, 66))
 
 
 def keys(number):
@@ -262,9 +305,9 @@ def keys(number):
         key = pattern(length)
         made = tag_message(number, key, MESSAGE, hash.size, hash.size)
         yield f'{name(hash)} of "abc" under a key of length {length}: {answer(*made)}'
-        refusal, keyed = start(number, key)
+        refusal, keyed = start(number, key, hash.size)
         yield f"  start: {refusal}, {keyed}"
-        yield from going_on(keyed)
+        yield from going_on(keyed, hash.size)
 
 
 def states(number):
@@ -296,32 +339,38 @@ def states(number):
         (2**64 - 1, None, 0, 0),
     ]:
         waiting = b"" if place is None else bytes(place) + b"\1"
-        keyed = Keyed(State(HASHES[number], [0] * 7 + [word], count, waiting), [0] * 7 + [outer])
+        hash = HASHES[number]
+        keyed = Keyed(State(hash, [0] * 7 + [word], count, waiting), hash.size, [0] * 7 + [outer])
         yield str(keyed)
-        yield from going_on(keyed)
+        yield from going_on(keyed, hash.size)
 
 
 def limit(number):
-    """One byte before the most that may be hashed."""
+    """One byte before the most that may be hashed. A tag length that is out of range is refused before the bytes are."""
     hash, count = HASHES[number], MOST_BYTES - 1
-    keyed = Keyed(State(hash, range(1, 9), count, bytes(range(1, count % hash.block + 1))), range(9, 17))
+    keyed = Keyed(State(hash, range(1, 9), count, bytes(range(1, count % hash.block + 1))), hash.size, range(9, 17))
     yield str(keyed)
     line, keyed = piece_line(keyed, b"ab")
     yield line
     line, keyed = piece_line(keyed, b"a")
     yield line
     yield str(keyed)
-    yield from tag_lines(keyed)
+    yield from tag_lines(keyed, hash.size)
     line, keyed = piece_line(keyed, b"a")
     yield line
     line, keyed = piece_line(keyed, b"")
     yield line
-    yield from tag_lines(keyed)
+    yield from tag_lines(keyed, hash.size)
+    keyed = with_length(keyed, 1)
+    yield str(keyed)
+    line, keyed = piece_line(keyed, b"a")
+    yield line
+    yield from tag_lines(keyed, hash.size)
 
 
 def sizes(number):
     """Tag lengths inside and outside their range, each with the sizes of the output."""
-    _, keyed = taken(number, KEY, MESSAGE)
+    _, full = taken(number, KEY, MESSAGE, HASHES[number].size)
     for tag_length, outputs in [
         (0, (0, 16)),
         (1, (1,)),
@@ -339,14 +388,17 @@ def sizes(number):
             head = f'{name(HASHES[number])} of "abc", tag length {tag_length}, into {size} bytes'
             yield f"{head}: {answer(*tag_message(number, KEY, MESSAGE, tag_length, size))}"
             yield f"  for hash 3: {answer(*tag_message(3, KEY, MESSAGE, tag_length, size))}"
-            yield f"  by tag: {answer(*tag(keyed, tag_length, size))}"
-            yield f"  by tag of a state that is not sound: {answer(*tag(with_last(keyed, 1), tag_length, size))}"
+            refusal, keyed = taken(number, KEY, MESSAGE, tag_length)
+            yield f"  by start and tag: {refusal}, then {answer(*tag(keyed, size))}"
+            keyed = with_length(full, tag_length)
+            yield f"  by tag of a state with this length put in: {answer(*tag(keyed, size))}"
+            yield f"  by tag of a state that is not sound: {answer(*tag(with_last(keyed, 1), size))}"
 
 
 def comparison(number):
     """Presented tags: the length of the tag, and how many bytes are presented, of which how many first ones are unchanged."""
-    _, keyed = taken(number, KEY, MESSAGE)
-    full = keyed.full().ljust(66, bytes([UNTOUCHED]))
+    _, whole = taken(number, KEY, MESSAGE, HASHES[number].size)
+    full = whole.full().ljust(66, bytes([UNTOUCHED]))
     for tag_length, rows in [
         (0, [(0, 0)]),
         (1, [(1, 1)]),
@@ -364,16 +416,21 @@ def comparison(number):
             head += f", presented {size} bytes, the first {unchanged} unchanged"
             yield f"{head}: {verify_message(number, KEY, MESSAGE, tag_length, presented)}"
             yield f"  for hash 3: {verify_message(3, KEY, MESSAGE, tag_length, presented)}"
-            yield f"  by verify: {verify(keyed, tag_length, presented)}"
-            yield f"  by verify of a state that is not sound: {verify(with_last(keyed, 1), tag_length, presented)}"
+            refusal, keyed = taken(number, KEY, MESSAGE, tag_length)
+            yield f"  by start and verify: {refusal}, then {verify(keyed, presented)}"
+            keyed = with_length(whole, tag_length)
+            yield f"  by verify of a state with this length put in: {verify(keyed, presented)}"
+            yield f"  by verify of a state that is not sound: {verify(with_last(keyed, 1), presented)}"
 
 
 def lines():
     yield from starts()
     for number in HASHES:
         yield from cases(number)
+        yield from lengths(number)
         yield from keys(number)
         yield from states(number)
+        yield from state_lengths(number)
         yield from limit(number)
         yield from sizes(number)
         yield from comparison(number)

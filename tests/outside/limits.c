@@ -55,19 +55,17 @@ static void gives(const char *what, const char *expected, uint32_t answer)
     calls++;
 }
 
-/* One byte too many, alone and beside a later refusal. A tag's message may have a block less than the most. */
+/* One byte too many, alone and beside a later refusal. What is extracted from may have a block less than the most. */
 static void refused_lengths(uint32_t hash, size_t digest, size_t block)
 {
     size_t over = (size_t)MOST + 1, message = over - block;
     refuses("digest", 4, tirmuzzle_digest(hash, zeros, over, out, digest));
     refuses("digest, and a wrong size", 4, tirmuzzle_digest(hash, zeros, over, out, 1));
     refuses("tag, key", 3, tirmuzzle_tag(hash, zeros, over, abc, 3, digest, out, digest));
-    refuses("tag, key and message", 3, tirmuzzle_tag(hash, zeros, over, zeros, over, digest, out, digest));
-    refuses("tag, message", 4, tirmuzzle_tag(hash, key, 3, zeros, message, digest, out, digest));
-    refuses("tag, message and tag length", 4, tirmuzzle_tag(hash, key, 3, zeros, message, 1, out, 1));
     refuses("verify, key", 3, tirmuzzle_verify(hash, zeros, over, abc, 3, digest, zeros, digest));
-    refuses("verify, message", 4, tirmuzzle_verify(hash, key, 3, zeros, message, digest, zeros, digest));
     refuses("extract, salt", 3, tirmuzzle_extract(hash, zeros, over, abc, 3, out, digest));
+    refuses("extract, salt and material", 3, tirmuzzle_extract(hash, zeros, over, zeros, message, out, digest));
+    refuses("extract, material and a wrong size", 4, tirmuzzle_extract(hash, key, 3, zeros, message, out, 1));
     refuses("extract, material", 4, tirmuzzle_extract(hash, key, 3, zeros, message, out, digest));
     refuses("extract, material under no salt", 4, tirmuzzle_extract(hash, NULL, 0, zeros, message, out, digest));
     refuses("expand, PRK", 3, tirmuzzle_expand(hash, zeros, over, abc, 3, out, digest));
@@ -75,6 +73,61 @@ static void refused_lengths(uint32_t hash, size_t digest, size_t block)
     refuses("keys, PRK and a wrong size", 3, tirmuzzle_report_keys(hash, zeros, over, 7, 258, out, 1));
     refuses("no hash, and too long", 2, tirmuzzle_digest(hash + 2, zeros, over, out, digest));
     refuses("no hash, and too long a key", 2, tirmuzzle_tag(hash + 2, zeros, over, abc, 3, digest, out, digest));
+}
+
+/* A tag length that is out of range, beside a message on both sides of its limit and far past it, and beside a key on both sides: 3
+ * comes before 5, and 5 before 4 and 6. Nothing is read. */
+static void refused_bad_tag_length(uint32_t hash, size_t block, size_t tag_length)
+{
+    size_t over = (size_t)MOST + 1, size = tag_length < OUT ? tag_length : OUT, other = size + 1 < OUT ? size + 1 : 0;
+    const size_t messages[] = {MOST - block, over - block, over};
+    for (size_t i = 0; i < sizeof messages / sizeof *messages; i++) {
+        size_t message = messages[i];
+        refuses("tag, message and tag length", 5, tirmuzzle_tag(hash, key, 3, unreadable, message, tag_length, out, size));
+        refuses("tag, message, tag length and size", 5, tirmuzzle_tag(hash, key, 3, unreadable, message, tag_length, out, other));
+        refuses("tag, key, message and tag length", 3,
+                tirmuzzle_tag(hash, unreadable, over, unreadable, message, tag_length, out, size));
+        refuses("tag, longest key, message and tag length", 5,
+                tirmuzzle_tag(hash, unreadable, MOST, unreadable, message, tag_length, out, size));
+        refuses("tag, no hash, message and tag length", 2, tirmuzzle_tag(0, key, 3, unreadable, message, tag_length, out, size));
+        refuses("verify, message and tag length", 5, tirmuzzle_verify(hash, key, 3, unreadable, message, tag_length, unreadable, size));
+        refuses("verify, message, tag length and size", 5,
+                tirmuzzle_verify(hash, key, 3, unreadable, message, tag_length, unreadable, other));
+        refuses("verify, key, message and tag length", 3,
+                tirmuzzle_verify(hash, unreadable, over, unreadable, message, tag_length, unreadable, size));
+        refuses("verify, longest key, message and tag length", 5,
+                tirmuzzle_verify(hash, unreadable, MOST, unreadable, message, tag_length, unreadable, size));
+        refuses("verify, no hash, message and tag length", 2,
+                tirmuzzle_verify(0, key, 3, unreadable, message, tag_length, unreadable, size));
+    }
+}
+
+/* A tag length at an end of its range, beside a message that is too long: 4 comes before 6. */
+static void refused_good_tag_length(uint32_t hash, size_t block, size_t tag_length)
+{
+    size_t over = (size_t)MOST + 1;
+    const size_t messages[] = {over - block, over};
+    for (size_t i = 0; i < sizeof messages / sizeof *messages; i++) {
+        size_t message = messages[i];
+        refuses("tag, message", 4, tirmuzzle_tag(hash, key, 3, unreadable, message, tag_length, out, tag_length));
+        refuses("tag, message and size", 4, tirmuzzle_tag(hash, key, 3, unreadable, message, tag_length, out, tag_length - 1));
+        refuses("tag, key and message", 3, tirmuzzle_tag(hash, unreadable, over, unreadable, message, tag_length, out, tag_length));
+        refuses("verify, message", 4, tirmuzzle_verify(hash, key, 3, unreadable, message, tag_length, unreadable, tag_length));
+        refuses("verify, message and size", 4,
+                tirmuzzle_verify(hash, key, 3, unreadable, message, tag_length, unreadable, tag_length - 1));
+        refuses("verify, key and message", 3,
+                tirmuzzle_verify(hash, unreadable, over, unreadable, message, tag_length, unreadable, tag_length));
+    }
+}
+
+/* Tag lengths on both sides of each end of the range. */
+static void refused_tag_lengths(uint32_t hash, size_t digest, size_t block)
+{
+    const size_t bad[] = {0, 1, digest / 2 - 1, digest + 1, OUT, (size_t)-1}, good[] = {digest / 2, digest};
+    for (size_t i = 0; i < sizeof bad / sizeof *bad; i++)
+        refused_bad_tag_length(hash, block, bad[i]);
+    for (size_t i = 0; i < sizeof good / sizeof *good; i++)
+        refused_good_tag_length(hash, block, good[i]);
 }
 
 /* What a submission that is refused answers. It leaves the ledger as it was, and writes 0 to seen. */
@@ -209,6 +262,8 @@ int main(int count, char **arguments)
     if (count == 1) {
         refused_lengths(TIRMUZZLE_SHA256, TIRMUZZLE_SHA256_DIGEST, 64);
         refused_lengths(TIRMUZZLE_SHA512, TIRMUZZLE_SHA512_DIGEST, SHA512_BLOCK);
+        refused_tag_lengths(TIRMUZZLE_SHA256, TIRMUZZLE_SHA256_DIGEST, 64);
+        refused_tag_lengths(TIRMUZZLE_SHA512, TIRMUZZLE_SHA512_DIGEST, SHA512_BLOCK);
         refused_reports();
         refused_writing(TIRMUZZLE_SHA256);
         refused_writing(TIRMUZZLE_SHA512);

@@ -1,9 +1,10 @@
--- Believed: the hashes that we make: their numbers and their sizes (docs/PROTOCOL.md, "The hashes"). Assumes nothing.
+-- Believed: the hashes that we make: their numbers, their sizes (docs/PROTOCOL.md, "The hashes"), and the lengths of their tags ("Keys
+-- and tags"). Assumes nothing.
 pub mod Laws
 use mathlib.Core.Path.{_≡_}
-use mathlib.Core.Bool.{Bool, cond, _||_}
+use mathlib.Core.Bool.{Bool, cond, _&&_, _||_}
 use Prim.Native.Nat.{ℕ, _*_, _≤_, _<_}
-use lib.Dec.{eqb}
+use lib.Dec.{eqb, leb}
 use Rattle.algorithm.specs.declared.hashes.Hash.{Hash}
 use Rattle.algorithm.specs.declared.hashes.Hash.the-variants.{Sha256, Sha512}
 use Rattle.algorithm.specs.declared.hashes.Named.{Named}
@@ -28,6 +29,10 @@ sizeOf Sha512 = 64
 abbrev pub shortestOf : Hash → ℕ
 shortestOf Sha256 = 16
 shortestOf Sha512 = 32
+
+-- whether a tag of t bytes may be asked for
+abbrev pub allowed : Hash → ℕ → Bool
+allowed h t = leb (shortestOf h) t && leb t (sizeOf h)
 
 -- whether a number names a hash
 abbrev pub names : ℕ → Bool

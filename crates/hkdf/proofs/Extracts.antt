@@ -9,21 +9,17 @@ use lib.ListN.{length, take, replicate, length-replicate}
 use Rattle.octets.specs.Parts.{take-replicate}
 use Rattle.algorithm.specs.declared.hashes.Hash.{Hash}
 use Rattle.algorithm.specs.Hashes.{names, hashOf, blockOf, sizeOf}
-use Rattle.algorithm.specs.Hashes.Laws.{digest-most}
+use Rattle.algorithm.specs.Hashes.Laws.{digest-most, size-allowed}
 use Rattle.algorithm.specs.Refusals.{done, mostBytes}
 use Rattle.hmac.specs.Hmac.Laws.{tag-full}
-use Rattle.hmac.specs.Keyed.{freshKeyed, afterKeyed}
-use Rattle.hmac.specs.Calls.{allowed, tagMessageAnswer}
+use Rattle.hmac.specs.Calls.{tagMessageAnswer}
 use Rattle.algorithm.specs.Checks.{written}
-use Rattle.hmac.specs.Calls.Laws.{message-tag, tag-wrong-size, tag-accepted, tag-message-key, tag-message-too-long}
-use Rattle.hmac.specs.Pieces.Laws.{fresh-message}
-use Rattle.hmac.specs.declared.keyed.Keyed.{Keyed}
+use Rattle.hmac.specs.Calls.Laws.{tag-message-accepted, tag-message-wrong-size, tag-message-key, tag-message-too-long}
 use Rattle.hkdf.specs.Hkdf.{saltOf}
 use Rattle.hkdf.specs.Hkdf.Open.{extract-is}
 use Rattle.hkdf.specs.Hkdf.Laws.{salt-empty, salt-given}
 use Rattle.hkdf.specs.Calls.{extractAnswer}
 use Rattle.hkdf.specs.Calls.Laws.{extract-salt-too-long, extract-too-long, extract-wrong-size, extract-accepted}
-use Rattle.hkdf.proofs.Stretches.{size-allowed}
 
 -- the key that a salt makes fits where the salt does
 salt-fits : (h : Hash) (salt : List ℕ) → length salt ≤ mostBytes → length (saltOf h salt) ≤ mostBytes
@@ -44,17 +40,14 @@ module _ (n : ℕ) (salt ikm out : List ℕ) (named : names n ≡ true) where
   taken s l =
       let h : Hash = hashOf n in
       let key : List ℕ = saltOf h salt in
-      let k : Keyed = afterKeyed (freshKeyed h key) ikm in
-      let M = fresh-message n key ikm named (salt-fits h salt s) l in
-      let a : allowed (k .hash) (sizeOf h) ≡ true = ap (λ (x : Hash). allowed x (sizeOf h)) (M .hash) ∙ size-allowed h in
-      sym (message-tag M (sizeOf h) out)
-      ∙ elim (ℕ-discrete (length out) (sizeOf h)) [
+      elim (ℕ-discrete (length out) (sizeOf h)) [
         | yes e ↦
-            tag-accepted k (sizeOf h) out (M .sound) a e
-            ∙ ap (λ (t : List ℕ). written done (take (sizeOf h) t)) (M .tag)
+            tag-message-accepted n key ikm (sizeOf h) out named (salt-fits h salt s) l (size-allowed h) e
             ∙ ap (written done) (tag-full h key ikm ∙ sym (extract-is h salt ikm))
             ∙ sym (extract-accepted n salt ikm out named s l e)
-        | no ne ↦ tag-wrong-size k (sizeOf h) out (M .sound) a ne ∙ sym (extract-wrong-size n salt ikm out named s l ne)
+        | no ne ↦
+            tag-message-wrong-size n key ikm (sizeOf h) out named (salt-fits h salt s) (size-allowed h) l ne
+            ∙ sym (extract-wrong-size n salt ikm out named s l ne)
       ]
 
   tag-extracts : tagMessageAnswer n (saltOf (hashOf n) salt) ikm (sizeOf (hashOf n)) out ≡ extractAnswer n salt ikm out
@@ -68,7 +61,7 @@ module _ (n : ℕ) (salt ikm out : List ℕ) (named : names n ≡ true) where
             ∙ sym (extract-salt-too-long n salt ikm out named (omega arith))
         | yes s ↦ elim (decLe (length ikm) (mostBytes - blockOf h)) [
           | no l ↦
-              tag-message-too-long n key ikm (sizeOf h) out named (salt-fits h salt s) (omega arith)
+              tag-message-too-long n key ikm (sizeOf h) out named (salt-fits h salt s) (size-allowed h) (omega arith)
               ∙ sym (extract-too-long n salt ikm out named s (omega arith))
           | yes l ↦ taken s l
         ]

@@ -7,37 +7,37 @@ ghost use lib.ListN.{length};
 ghost use Rattle.octets.specs.Copy.{over};
 ghost use Rattle.octets.specs.Zeros.{zerosTo};
 ghost use Rattle.algorithm.specs.Hashes.{names, hashOf, sizeOf};
-ghost use Rattle.hmac.specs.Keyed.{HeldKeyed, freshKeyed, afterKeyed, fullTag};
+ghost use Rattle.hmac.specs.Keyed.{HeldKeyed, freshKeyed, afterKeyed, keyedTag};
 ghost use Rattle.hkdf.specs.Hkdf.{expandOf};
 ghost use Rattle.hkdf.specs.Calls.{ExpandOutcome};
 ghost use Rattle.hkdf.specs.Inside.{Keyable, Expandable, Stretchable};
 use algorithm::Named;
 use hmac::Keyed;
 
-// The start under the key, made once for all blocks.
-fn start(hash_number: u32, prk: &[u8]) -> Keyed
+// The start under the key, for tags of a digest's size, made once for all blocks.
+fn start(hash_number: u32, size: usize, prk: &[u8]) -> Keyed
     requires { ⌜ Keyable «hash_number» (now prk) ⌝ }
-    ensures { λ r. ⌜ r ≡ freshKeyed (hashOf «hash_number») (now (prk .entry)) ⌝ }
+    requires { ⌜ size ≡ sizeOf (hashOf «hash_number») ⌝ }
+    ensures { λ r. ⌜ r ≡ freshKeyed (hashOf «hash_number») (now (prk .entry)) size ⌝ }
 {
-    let started = hmac::start(hash_number, prk);
+    let started = hmac::start(hash_number, prk, size);
     started.keyed
 }
 
-// The full tag over the beginning of a buffer.
+// The tag over the beginning of a buffer.
 fn tag_into(keyed: Keyed, out: &mut [u8])
     requires { ⌜ HeldKeyed keyed ⌝ }
-    requires { ⌜ sizeOf (keyed .hash) ≤ length (now out) ⌝ }
-    ensures { λ _. ⌜ now (out .exit) ≡ over (fullTag keyed) (now (out .entry)) ⌝ }
+    requires { ⌜ keyed .«tag_length» ≤ length (now out) ⌝ }
+    ensures { λ _. ⌜ now (out .exit) ≡ over (keyedTag keyed) (now (out .entry)) ⌝ }
 {
-    let hash = keyed.hash;
-    let size = algorithm::digest_size(hash);
-    hmac::tag(keyed, size, &mut out[..size]);
+    let size = keyed.tag_length;
+    hmac::tag(keyed, &mut out[..size]);
 }
 
 // One block, the tag of the last one, info and the counter, with zeros after it.
 fn stretch(keyed: Keyed, last: &[u8], info: &[u8], i: u8) -> [u8; 64]
     requires { ⌜ Stretchable keyed (now last) (now info) ⌝ }
-    ensures { λ r. ⌜ r ≡ zerosTo 64 (fullTag (afterKeyed keyed (now (last .entry) ++ (now (info .entry) ++ (i ∷ []))))) ⌝ }
+    ensures { λ r. ⌜ r ≡ zerosTo 64 (keyedTag (afterKeyed keyed (now (last .entry) ++ (now (info .entry) ++ (i ∷ []))))) ⌝ }
 {
     let counter = [i];
     let fed_last = hmac::update(keyed, last);
@@ -53,13 +53,12 @@ fn stretch(keyed: Keyed, last: &[u8], info: &[u8], i: u8) -> [u8; 64]
 
 // The output, block after block, the last one cut. Of the block before the first none counts; the counter is raised before each
 // block, since it has no room beyond the last.
-fn fill(hash_number: u32, prk: &[u8], info: &[u8], out: &mut [u8])
+fn fill(hash_number: u32, size: usize, prk: &[u8], info: &[u8], out: &mut [u8])
     requires { ⌜ Expandable «hash_number» (now prk) (now info) (now out) ⌝ }
+    requires { ⌜ size ≡ sizeOf (hashOf «hash_number») ⌝ }
     ensures { λ _. ⌜ now (out .exit) ≡ expandOf (hashOf «hash_number») (now (prk .entry)) (now (info .entry)) (length (now (out .entry))) ⌝ }
 {
-    let keyed = start(hash_number, prk);
-    let hash = keyed.hash;
-    let size = algorithm::digest_size(hash);
+    let keyed = start(hash_number, size, prk);
     let mut block = [0u8; 64];
     let mut filled = 0;
     let mut at = 0;
@@ -93,7 +92,7 @@ fn expand_for(hash_number: u32, size: usize, prk: &[u8], info: &[u8], out: &mut 
     if algorithm::MOST_DIGESTS * size < out.len() {
         return algorithm::OUTPUT_TOO_LONG;
     }
-    fill(hash_number, prk, info, out);
+    fill(hash_number, size, prk, info, out);
     algorithm::DONE
 }
 

@@ -4,25 +4,20 @@ pub mod Laws
 pub mod Unique
 pub mod Inner
 use mathlib.Core.Path.{_≡_}
-use mathlib.Core.Bool.{Bool, _&&_}
+use mathlib.Core.Bool.{Bool}
 use mathlib.Core.List.{List, [], _∷_, _++_}
 use Prim.Native.Nat.{ℕ, _+_, _-_}
 use lib.Dec.{leb, eqb}
-use lib.ListN.{length, take}
+use lib.ListN.{length}
 use Rattle.octets.specs.Same.{equal}
-use Rattle.algorithm.specs.declared.hashes.Hash.{Hash}
-use Rattle.algorithm.specs.Hashes.{names, hashOf, blockOf, sizeOf, shortestOf}
+use Rattle.algorithm.specs.Hashes.{names, hashOf, blockOf, allowed}
 use Rattle.algorithm.specs.Refusals.{tagDiffers, unknownHash, keyTooLong, messageTooLong, tagLengthOutOfRange, wrongSize, stateNotSound, mostBytes}
 use Rattle.algorithm.specs.Checks.{Check, check, firstFailing, decided, answered}
 use Rattle.hmac.specs.Hmac.{tagOf}
-use Rattle.hmac.specs.Keyed.{soundKeyed, freshKeyed, zeroKeyed, afterKeyed, fullTag}
+use Rattle.hmac.specs.Keyed.{soundKeyed, freshKeyed, zeroKeyed, afterKeyed, keyedTag}
 use Rattle.hmac.specs.declared.keyed.Keyed.{Keyed}
 use Rattle.hmac.specs.declared.keyed.Started.{Started}
 use Rattle.hmac.specs.declared.keyed.Fed.{Fed}
-
--- whether a tag of t bytes may be asked for
-abbrev pub allowed : Hash → ℕ → Bool
-allowed h t = leb (shortestOf h) t && leb t (sizeOf h)
 
 -- an answer with a keyed state
 abbrev pub started : ℕ → Keyed → Started
@@ -31,15 +26,17 @@ started n k = record { number = n; keyed = k }
 abbrev pub fed : ℕ → Keyed → Fed
 fed n k = record { number = n; keyed = k }
 
--- start(hash_number, key)
-abbrev pub startChecks : ℕ → List ℕ → List Check
-startChecks n key = check (names n) unknownHash ∷ check (leb (length key) mostBytes) keyTooLong ∷ []
+-- start(hash_number, key, tag_length)
+abbrev pub startChecks : ℕ → List ℕ → ℕ → List Check
+startChecks n key t =
+    check (names n) unknownHash ∷ check (leb (length key) mostBytes) keyTooLong ∷ check (allowed (hashOf n) t) tagLengthOutOfRange ∷ []
 
-pub startOf : ℕ → List ℕ → Started
-startOf n key = record { number = firstFailing (startChecks n key); keyed = decided (startChecks n key) (freshKeyed (hashOf n) key) zeroKeyed }
+pub startOf : ℕ → List ℕ → ℕ → Started
+startOf n key t =
+    record { number = firstFailing (startChecks n key t); keyed = decided (startChecks n key t) (freshKeyed (hashOf n) key t) zeroKeyed }
 
-abbrev pub StartOutcome : ℕ → List ℕ → Started → Type 0
-StartOutcome n key r = r ≡ startOf n key
+abbrev pub StartOutcome : ℕ → List ℕ → ℕ → Started → Type 0
+StartOutcome n key t r = r ≡ startOf n key t
 
 -- sound(keyed)
 abbrev pub SoundOutcome : Keyed → Bool → Type 0
@@ -55,45 +52,45 @@ updateOf k p = record { number = firstFailing (updateChecks k p); keyed = decide
 abbrev pub UpdateOutcome : Keyed → List ℕ → Fed → Type 0
 UpdateOutcome k p r = r ≡ updateOf k p
 
--- a tag of t bytes, and as many for the output or for what is presented
-abbrev pub lengthChecks : Hash → ℕ → List ℕ → List Check
-lengthChecks h t bytes = check (allowed h t) tagLengthOutOfRange ∷ check (eqb (length bytes) t) wrongSize ∷ []
+-- as many bytes as the tag has, for the output or for what is presented
+abbrev pub sizeChecks : ℕ → List ℕ → List Check
+sizeChecks t bytes = check (eqb (length bytes) t) wrongSize ∷ []
 
 -- what is presented, compared with a tag
 abbrev pub compareChecks : List ℕ → List ℕ → List Check
 compareChecks presented tag = check (equal presented tag) tagDiffers ∷ []
 
--- tag(keyed, tag_length, out)
-abbrev pub tagChecks : Keyed → ℕ → List ℕ → List Check
-tagChecks k t bytes = check (soundKeyed k) stateNotSound ∷ lengthChecks (k .hash) t bytes
+-- tag(keyed, out)
+abbrev pub tagChecks : Keyed → List ℕ → List Check
+tagChecks k bytes = check (soundKeyed k) stateNotSound ∷ sizeChecks (k .«tag_length») bytes
 
-pub tagAnswer : Keyed → ℕ → List ℕ → ℕ × List ℕ
-tagAnswer k t out = answered (tagChecks k t out) (take t (fullTag k)) out
+pub tagAnswer : Keyed → List ℕ → ℕ × List ℕ
+tagAnswer k out = answered (tagChecks k out) (keyedTag k) out
 
-abbrev pub TagOutcome : Keyed → ℕ → List ℕ → ℕ → List ℕ → Type 0
-TagOutcome k t out r after = _≡_ {A = ℕ × List ℕ} (r, after) (tagAnswer k t out)
+abbrev pub TagOutcome : Keyed → List ℕ → ℕ → List ℕ → Type 0
+TagOutcome k out r after = _≡_ {A = ℕ × List ℕ} (r, after) (tagAnswer k out)
 
--- verify(keyed, tag_length, presented): the checks of the tag, and then the comparison
-abbrev pub verifyChecks : Keyed → ℕ → List ℕ → List Check
-verifyChecks k t presented = tagChecks k t presented ++ compareChecks presented (take t (fullTag k))
+-- verify(keyed, presented): the checks of the tag, and then the comparison
+abbrev pub verifyChecks : Keyed → List ℕ → List Check
+verifyChecks k presented = tagChecks k presented ++ compareChecks presented (keyedTag k)
 
-pub verifyAnswer : Keyed → ℕ → List ℕ → ℕ
-verifyAnswer k t presented = firstFailing (verifyChecks k t presented)
+pub verifyAnswer : Keyed → List ℕ → ℕ
+verifyAnswer k presented = firstFailing (verifyChecks k presented)
 
-abbrev pub VerifyOutcome : Keyed → ℕ → List ℕ → ℕ → Type 0
-VerifyOutcome k t presented r = r ≡ verifyAnswer k t presented
+abbrev pub VerifyOutcome : Keyed → List ℕ → ℕ → Type 0
+VerifyOutcome k presented r = r ≡ verifyAnswer k presented
 
 -- a message that fits after the block of its key
 abbrev pub fitChecks : ℕ → List ℕ → List Check
 fitChecks n m = check (leb (length m) (mostBytes - blockOf (hashOf n))) messageTooLong ∷ []
 
 -- a message that is taken in one piece: the checks of the start, and then that it fits
-abbrev pub takenChecks : ℕ → List ℕ → List ℕ → List Check
-takenChecks n key m = startChecks n key ++ fitChecks n m
+abbrev pub takenChecks : ℕ → List ℕ → List ℕ → ℕ → List Check
+takenChecks n key m t = startChecks n key t ++ fitChecks n m
 
--- tag_message(hash_number, key, message, tag_length, out): the checks of a message that is taken, and then of the tag's length
+-- tag_message(hash_number, key, message, tag_length, out): the checks of a message that is taken, and then of the size
 abbrev pub messageChecks : ℕ → List ℕ → List ℕ → ℕ → List ℕ → List Check
-messageChecks n key m t bytes = takenChecks n key m ++ lengthChecks (hashOf n) t bytes
+messageChecks n key m t bytes = takenChecks n key m t ++ sizeChecks t bytes
 
 pub tagMessageAnswer : ℕ → List ℕ → List ℕ → ℕ → List ℕ → ℕ × List ℕ
 tagMessageAnswer n key m t out = answered (messageChecks n key m t out) (tagOf (hashOf n) key t m) out

@@ -1,6 +1,7 @@
 -- Believed: a run of pieces under a key: the call that is given each of them, as algorithm's runs take it, and the keyed state that updates
 -- lead to one after the other. The laws are in Pieces/Laws.antt. Assumes nothing.
 pub mod Laws
+pub mod Lengths
 use mathlib.Core.Path.{_≡_}
 use mathlib.Core.List.{List, _++_}
 use Prim.Native.Nat.{ℕ}

@@ -5,10 +5,11 @@ use algorithm::Hash;
 use hash::LARGEST_BLOCK;
 use hash::State;
 
-// The hash that it was made for; the inner hash at work, of which the first block counts; and the outer words, which have taken
-// their block and nothing more.
+// The hash and the length of the tag that it was made for; the inner hash at work, of which the first block counts; and the outer
+// words, which have taken their block and nothing more.
 pub struct Keyed {
     pub hash: Hash,
+    pub tag_length: usize,
     pub words: [u64; 8],
     pub count: u64,
     pub waiting: [u8; LARGEST_BLOCK],
@@ -65,15 +66,16 @@ pub(crate) fn outer(keyed: Keyed) -> State
     }
 }
 
-// An inner state with outer words.
-pub(crate) fn join(state: State, outer: [u64; 8]) -> Keyed
-    ensures { λ r. ⌜ r ≡ joined state outer ⌝ }
+// An inner state with a tag length and outer words.
+pub(crate) fn join(state: State, tag_length: usize, outer: [u64; 8]) -> Keyed
+    ensures { λ r. ⌜ r ≡ joined state «tag_length» outer ⌝ }
 {
     let hash = state.hash;
     let words = state.words;
     let waiting = state.waiting;
     Keyed {
         hash,
+        tag_length,
         words,
         count: state.count,
         waiting,

@@ -2,6 +2,7 @@
 mod ending;
 mod form;
 mod keyed;
+mod lengths;
 mod one_piece;
 mod pieces;
 mod soundness;

@@ -23,7 +23,7 @@ pub fn update(keyed: Keyed, piece: &[u8]) -> Fed
     }
     let next = fed.state;
     let outer = keyed.outer;
-    let after = crate::keyed::join(next, outer);
+    let after = crate::keyed::join(next, keyed.tag_length, outer);
     Fed {
         number: algorithm::DONE,
         keyed: after,

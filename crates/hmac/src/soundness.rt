@@ -2,7 +2,7 @@
 ghost use Rattle.hmac.specs.Calls.{SoundOutcome};
 use crate::keyed::Keyed;
 
-// Whether a keyed state is sound: its inner and its outer hash are, and its first block is counted.
+// Whether a keyed state is sound: its inner and its outer hash are, its first block is counted, and its tag length is in range.
 pub fn sound(keyed: Keyed) -> bool
     ensures { λ r. ⌜ SoundOutcome keyed r ⌝ }
 {
@@ -18,5 +18,8 @@ pub fn sound(keyed: Keyed) -> bool
     }
     let hash = keyed.hash;
     let size = algorithm::block_size(hash);
-    size as u64 <= keyed.count
+    if keyed.count < size as u64 {
+        return false;
+    }
+    crate::lengths::length_allowed(hash, keyed.tag_length)
 }

@@ -20,12 +20,12 @@ use Rattle.octets.specs.Number.Spelled.{byte-bytes}
 use Rattle.octets.specs.Sums.{sumOf}
 use Rattle.octets.specs.Sums.Laws.{sum-more, sum-part}
 use Rattle.algorithm.specs.declared.hashes.Hash.{Hash}
-use Rattle.algorithm.specs.Hashes.{hashOf, blockOf}
+use Rattle.algorithm.specs.Hashes.{hashOf, blockOf, allowed}
 use Rattle.algorithm.specs.Hashes.Laws.{block-most}
 use Rattle.algorithm.specs.Refusals.{mostBytes}
 use Rattle.hmac.specs.Hmac.{tagOf}
 use Rattle.hmac.specs.Hmac.Laws.{tag-length}
-use Rattle.hmac.specs.Calls.{allowed, tagMessageAnswer}
+use Rattle.hmac.specs.Calls.{tagMessageAnswer}
 use Rattle.hmac.specs.Calls.Laws.{tag-message-accepted}
 use Rattle.report.specs.Layout.{Site, siteBytes, sitesBytes}
 use Rattle.report.specs.Reading.{hashNamed}

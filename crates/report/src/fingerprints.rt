@@ -17,13 +17,13 @@ fn tag_pieces(hash: u32, key: &[u8], first: &[u8], second: &[u8], out: &mut [u8]
     requires { ⌜ TwoPieces hash (now key) (now first) (now second) (now out) ⌝ }
     ensures { λ _. ⌜ now (out .exit) ≡ tagOf (hashOf hash) (now (key .entry)) 32 (now (first .entry) ++ now (second .entry)) ⌝ }
 {
-    let started = hmac::start(hash, key);
+    let started = hmac::start(hash, key, FINGERPRINT);
     let keyed = started.keyed;
     let fed_first = hmac::update(keyed, first);
     let after_first = fed_first.keyed;
     let fed_second = hmac::update(after_first, second);
     let after_second = fed_second.keyed;
-    hmac::tag(after_second, FINGERPRINT, out);
+    hmac::tag(after_second, out);
 }
 
 // All bytes before the tag but the count, the send time and the attempt; reading's numbers, 3 where the key is too long, 6 where the

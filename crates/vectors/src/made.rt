@@ -97,13 +97,14 @@ pub(crate) fn inner(keyed: Keyed) -> State {
     }
 }
 
-// A keyed state of a state and outer words.
-pub(crate) fn keyed(inner: State, outer: [u64; 8]) -> Keyed {
+// A keyed state of a state, a tag length and outer words.
+pub(crate) fn keyed(inner: State, tag_length: usize, outer: [u64; 8]) -> Keyed {
     let hash = inner.hash;
     let words = inner.words;
     let waiting = inner.waiting;
     Keyed {
         hash,
+        tag_length,
         words,
         count: inner.count,
         waiting,
@@ -114,7 +115,7 @@ pub(crate) fn keyed(inner: State, outer: [u64; 8]) -> Keyed {
 pub(crate) fn same_keyed(a: Keyed, b: Keyed) -> bool {
     let outer = a.outer;
     let outer_too = b.outer;
-    same(inner(a), inner(b)) && same_words(outer, outer_too)
+    a.tag_length == b.tag_length && same(inner(a), inner(b)) && same_words(outer, outer_too)
 }
 
 // One less, and zero for zero.

@@ -70,6 +70,8 @@ pub(crate) fn keyed(keyed: Keyed) {
     fields(made::inner(keyed));
     text(b", outer words");
     words(outer);
+    text(b", tag length ");
+    number(keyed.tag_length as u64);
     text(b"\n");
 }
 

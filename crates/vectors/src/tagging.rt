@@ -10,8 +10,10 @@ pub(crate) fn run() {
     edges::starts();
     for number in 1..3 {
         published::cases(number);
+        edges::lengths(number);
         edges::keys(number);
         edges::states(number);
+        edges::state_lengths(number);
         edges::limit(number);
         sizes::rows(number);
         comparison::rows(number);

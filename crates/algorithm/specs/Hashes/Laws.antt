@@ -1,10 +1,14 @@
 -- Proved: laws of the hashes that we make, for the layers above. Assumes nothing.
-use mathlib.Core.Path.{_≡_, refl}
-use mathlib.Core.Bool.{Bool, true, false, cond}
+use mathlib.Core.Path.{_≡_, refl, sym, ap, _∙_}
+use mathlib.Core.Logic.{_↔_}
+use mathlib.Core.Bool.{Bool, true, false, cond, _&&_, and-false, true≢false}
 use Prim.Native.Nat.{ℕ, _*_, _≤_, _<_}
+use native.Mathlib.Decide.{decLe}
+use native.Mathlib.Nat.{le-refl}
 use native.Mathlib.Omega.{arith}
-use lib.Dec.{lit<, lit≤}
-use Rattle.algorithm.specs.Hashes.{blockOf, sizeOf, shortestOf, Sizes}
+use lib.Dec.{leb, lit<, lit≤}
+use borrow.Author.Tests.{le-leb, lt-leb}
+use Rattle.algorithm.specs.Hashes.{blockOf, sizeOf, shortestOf, allowed, Sizes}
 use Rattle.algorithm.specs.declared.hashes.Hash.{Hash}
 use Rattle.algorithm.specs.declared.hashes.Hash.the-variants.{Sha256, Sha512}
 use Rattle.algorithm.specs.declared.hashes.Named.the-variants.{Is, Unknown}
@@ -43,3 +47,31 @@ module _ (h : Hash) where
 
   pub block-most : blockOf h ≤ 128
   block-most = sizes h .block
+
+-- a tag length in its range, below it and above it
+module _ (h : Hash) (t : ℕ) where
+  pub length-allowed : shortestOf h ≤ t → t ≤ sizeOf h → allowed h t ≡ true
+  length-allowed l u = rw (le-leb (shortestOf h) t l) (le-leb t (sizeOf h) u)
+
+  pub length-below : t < shortestOf h → allowed h t ≡ false
+  length-below l = rw (lt-leb (shortestOf h) t l)
+
+  pub length-above : sizeOf h < t → allowed h t ≡ false
+  length-above u = ap (λ (b : Bool). leb (shortestOf h) t && b) (lt-leb t (sizeOf h) u) ∙ and-false (leb (shortestOf h) t)
+
+  -- so it may be asked for exactly when it is in its range
+  allowed-range : allowed h t ≡ true → (shortestOf h ≤ t) × (t ≤ sizeOf h)
+  allowed-range e = elim (decLe (shortestOf h) t) [
+    | no l ↦ absurd (true≢false (sym e ∙ length-below (omega arith)))
+    | yes l ↦ elim (decLe t (sizeOf h)) [
+      | no u ↦ absurd (true≢false (sym e ∙ length-above (omega arith)))
+      | yes u ↦ (l, u)
+    ]
+  ]
+
+  pub allowed-exactly : allowed h t ≡ true ↔ ((shortestOf h ≤ t) × (t ≤ sizeOf h))
+  allowed-exactly = (allowed-range, λ p. length-allowed (p .0) (p .1))
+
+-- the full tag may be asked for
+pub size-allowed : (h : Hash) → allowed h (sizeOf h) ≡ true
+size-allowed h = length-allowed h (sizeOf h) (omega (arith, half-digest h)) (le-refl (sizeOf h))

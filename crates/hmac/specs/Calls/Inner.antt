@@ -28,12 +28,12 @@ module _ (k : Keyed) (p : List ℕ) (ok : soundKeyed k ≡ true) {f : hash-fed.F
   ]
 
   -- it took them
-  pub inner-takes : f .number ≡ done → {r : Keyed} → r ≡ joined (f .state) (k .outer) → fed done r ≡ updateOf k p
+  pub inner-takes : f .number ≡ done → {r : Keyed} → r ≡ joined (f .state) (k .«tag_length») (k .outer) → fed done r ≡ updateOf k p
   inner-takes z {r} er = elim (decLe (k .count + length p) mostBytes) [
     | yes l ↦
         ap (fed done)
         (er
-        ∙ ap (λ (x : hash-fed.Fed). joined (x .state) (k .outer)) (e ∙ hash-laws.update-accepted (innerOf k) p (sound-inner k ok) l)
+        ∙ ap (λ (x : hash-fed.Fed). joined (x .state) (k .«tag_length») (k .outer)) (e ∙ hash-laws.update-accepted (innerOf k) p (sound-inner k ok) l)
         ∙ sym (after-is k p))
         ∙ sym (update-accepted k p ok l)
     | no l ↦

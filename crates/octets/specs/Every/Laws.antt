@@ -16,6 +16,11 @@ pub and-parts : (a b : Bool) → (a && b) ≡ true → (a ≡ true) × (b ≡ tr
 and-parts true b h = (refl, h)
 and-parts false b h = absurd (true≢false (sym h))
 
+-- a test that is not true is false
+pub refuted : (b : Bool) → (b ≡ true → ⊥) → b ≡ false
+refuted true z = absurd (z refl)
+refuted false z = refl
+
 module _ (p : ℕ → Bool) where
   pub every-append : (a b : List ℕ) → every p (a ++ b) ≡ (every p a && every p b)
   unfolding every
@@ -50,10 +55,6 @@ module _ (p : ℕ → Bool) where
   -- and not all do where one does not
   pub every-fails : (l : List ℕ) (i : ℕ) → i < length l → p (getD l i 0) ≡ false → every p l ≡ false
   every-fails l i h e = refuted (every p l) (λ t. true≢false (sym (every-at l t i h) ∙ e))
-    where
-      refuted : (b : Bool) → (b ≡ true → ⊥) → b ≡ false
-      refuted true z = absurd (z refl)
-      refuted false z = refl
 
 -- zeros are all zero, and a list that is all zero is zeros of its length
 pub zeros-all : (n : ℕ) → allZero (replicate n 0) ≡ true

@@ -19,7 +19,7 @@ use Rattle.octets.specs.Same.{equal}
 use Rattle.algorithm.specs.declared.hashes.Hash.{Hash}
 use Rattle.algorithm.specs.declared.hashes.Hash.the-variants.{Sha256, Sha512}
 use Rattle.algorithm.specs.declared.hashes.Named.the-variants.{Is, Unknown}
-use Rattle.algorithm.specs.Hashes.{names, hashOf, sizeOf}
+use Rattle.algorithm.specs.Hashes.{names, hashOf, sizeOf, allowed}
 use Rattle.algorithm.specs.Hashes.Laws.{unknown, known}
 use Rattle.algorithm.specs.Refusals.{done, tagDiffers, unknownHash, keyTooLong, wrongSize, prkTooShort, noSuchSite, mostBytes}
 use Rattle.algorithm.specs.Checks.{Check, check, firstFailing, Pass, Refusing, Fail, written}
@@ -27,7 +27,7 @@ use Rattle.algorithm.specs.Checks.Pass.{all, and}
 use Rattle.algorithm.specs.Checks.Refusing.{none}
 use Rattle.algorithm.specs.Checks.Laws.{exactly, exactly-done, done-passes, refuses, pass-append, append-refuses, append-passes, refusing-append, answered-refused, answered-done}
 use Rattle.hmac.specs.Hmac.{tagOf}
-use Rattle.hmac.specs.Calls.{allowed, compareChecks}
+use Rattle.hmac.specs.Calls.{compareChecks}
 use Rattle.hmac.specs.Calls.Laws.{compared-done}
 use Rattle.report.specs.Reading.{namesHash, hashNamed, namedIn, hashIn, tagSizeIn, tagStart, beforeTag, firstSite, readSites, sitesIn, readChecks, fieldsOf, readOf}
 use Rattle.report.specs.Inside.{First, Passed, siteHere, Stands, bodySites, refusedReading, headReading}

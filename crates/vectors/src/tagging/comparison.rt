@@ -3,7 +3,6 @@ use crate::made;
 use crate::say;
 use crate::tagging::calls;
 use crate::tagging::inputs;
-use hmac::Keyed;
 
 // The length of the tag, how many bytes of the full tag (with a5 after it) are presented, and how many first ones are unchanged.
 const ROWS: [[usize; 3]; 32] = [
@@ -49,9 +48,7 @@ pub(crate) fn rows(hash_number: u32) {
 
 // Of the message "abc" under the key "Jefe".
 fn row(hash_number: u32, row: [usize; 3]) {
-    let started = hmac::start(hash_number, b"Jefe");
-    let fed = hmac::update(started.keyed, b"abc");
-    let full = inputs::full_tag(fed.keyed);
+    let full = inputs::full_tag(inputs::taken(hash_number));
     let unchanged = row[2];
     let bytes = inputs::agreeing(full, unchanged);
     let size = row[1];
@@ -59,7 +56,8 @@ fn row(hash_number: u32, row: [usize; 3]) {
     if size <= 66 {
         head(hash_number, tag_length, size, unchanged);
         by_message(hash_number, tag_length, &bytes[0..size]);
-        by_state(fed.keyed, tag_length, &bytes[0..size]);
+        by_start(hash_number, tag_length, &bytes[0..size]);
+        by_state(hash_number, tag_length, &bytes[0..size]);
     }
 }
 
@@ -80,10 +78,19 @@ fn by_message(hash_number: u32, tag_length: usize, presented: &[u8]) {
     calls::verify_message(3, b"Jefe", b"abc", tag_length, presented);
 }
 
-fn by_state(keyed: Keyed, tag_length: usize, presented: &[u8]) {
-    say::text(b"  by verify: ");
-    calls::verify(keyed, tag_length, presented);
+fn by_start(hash_number: u32, tag_length: usize, presented: &[u8]) {
+    say::text(b"  by start and verify: ");
+    let keyed = calls::start(hash_number, b"Jefe", tag_length);
+    let fed = hmac::update(keyed, b"abc");
+    say::text(b", then ");
+    calls::verify(fed.keyed, presented);
+}
+
+fn by_state(hash_number: u32, tag_length: usize, presented: &[u8]) {
+    let keyed = inputs::with_length(inputs::taken(hash_number), tag_length);
+    say::text(b"  by verify of a state with this length put in: ");
+    calls::verify(keyed, presented);
     let unsound = inputs::with_last(keyed, 1);
     say::text(b"  by verify of a state that is not sound: ");
-    calls::verify(unsound, tag_length, presented);
+    calls::verify(unsound, presented);
 }

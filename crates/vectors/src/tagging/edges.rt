@@ -6,6 +6,28 @@ use crate::tagging::inputs;
 use algorithm::Hash;
 use hmac::Keyed;
 
+// Tag lengths on both sides of each range, and the largest number.
+const LENGTHS: [usize; 13] = [
+    0,
+    1,
+    15,
+    16,
+    17,
+    31,
+    32,
+    33,
+    63,
+    64,
+    65,
+    66,
+    18446744073709551615,
+];
+
+// As many bytes as a tag of this length has, and at most 66, the largest buffer here.
+fn room_for(tag_length: usize) -> usize {
+    if tag_length < 66 { tag_length } else { 66 }
+}
+
 // A start for each number, and how what came back goes on.
 pub(crate) fn starts() {
     for i in 0..5 {
@@ -17,12 +39,19 @@ fn start(hash_number: u32) {
     say::text(b"start for hash ");
     say::number(hash_number as u64);
     say::text(b": ");
-    let started = hmac::start(hash_number, b"Jefe");
-    say::number(started.number as u64);
-    say::text(b", ");
-    say::keyed(started.keyed);
-    going_on(started.keyed);
+    let keyed = started(hash_number, b"Jefe", 32);
+    going_on(keyed, 32);
     in_one_call(hash_number);
+    say::text(b"  for tags of length 1: ");
+    started(hash_number, b"Jefe", 1);
+}
+
+// What a start answers and hands back, in full.
+fn started(hash_number: u32, key: &[u8], tag_length: usize) -> Keyed {
+    let keyed = calls::start(hash_number, key, tag_length);
+    say::text(b", ");
+    say::keyed(keyed);
+    keyed
 }
 
 fn in_one_call(hash_number: u32) {
@@ -33,12 +62,29 @@ fn in_one_call(hash_number: u32) {
     calls::verify_message(hash_number, b"Jefe", b"abc", 32, &presented);
 }
 
-// What a keyed state answers, before and after a piece.
-fn going_on(keyed: Keyed) {
+// A start for each tag length, and how what came back goes on.
+pub(crate) fn lengths(hash_number: u32) {
+    for i in 0..13 {
+        length(hash_number, LENGTHS[i]);
+    }
+}
+
+fn length(hash_number: u32, tag_length: usize) {
+    say::text(b"start for hash ");
+    say::number(hash_number as u64);
+    say::text(b" and tags of length ");
+    say::number(tag_length as u64);
+    say::text(b": ");
+    let keyed = started(hash_number, b"Jefe", tag_length);
+    going_on(keyed, room_for(tag_length));
+}
+
+// What a keyed state answers, before and after a piece, for tags of so many bytes.
+fn going_on(keyed: Keyed, size: usize) {
     say::soundness(hmac::sound(keyed));
-    calls::tags(keyed);
+    calls::tags(keyed, size);
     let next = calls::update(keyed, b"abc");
-    calls::tags(next);
+    calls::tags(next, size);
 }
 
 const KEYS: [usize; 9] = [0, 1, 63, 64, 65, 127, 128, 129, 300];
@@ -66,11 +112,8 @@ fn under(hash_number: u32, key: &[u8]) {
     say::text(b": ");
     calls::tag_message(hash_number, key, b"abc", size, size);
     say::text(b"  start: ");
-    let started = hmac::start(hash_number, key);
-    say::number(started.number as u64);
-    say::text(b", ");
-    say::keyed(started.keyed);
-    going_on(started.keyed);
+    let keyed = started(hash_number, key, size);
+    going_on(keyed, size);
 }
 
 // Keyed states that differ from zeros in the count, in one waiting byte (none at place 128), in the last word and in the last outer
@@ -110,22 +153,45 @@ pub(crate) fn states(hash_number: u32) {
 }
 
 fn state(hash: Hash, row: [u64; 4]) {
+    let size = algorithm::digest_size(hash);
     let inner = made::nearly_zero(hash, row[0], row[1] as usize, row[2]);
-    let keyed = made::keyed(inner, [0, 0, 0, 0, 0, 0, 0, row[3]]);
+    let keyed = made::keyed(inner, size, [0, 0, 0, 0, 0, 0, 0, row[3]]);
     say::keyed(keyed);
-    going_on(keyed);
+    going_on(keyed, size);
 }
 
-// One byte before the most that may be hashed, under outer words of its own, 9 to 16.
+// States that no call made, sound where their tag length is in range, under outer words of their own, 9 to 16.
+pub(crate) fn state_lengths(hash_number: u32) {
+    let hash = made::hash_of(hash_number);
+    for i in 0..13 {
+        state_length(hash, LENGTHS[i]);
+    }
+}
+
+fn state_length(hash: Hash, tag_length: usize) {
+    let inner = made::own(hash, 200);
+    let keyed = made::keyed(inner, tag_length, [9, 10, 11, 12, 13, 14, 15, 16]);
+    say::keyed(keyed);
+    going_on(keyed, room_for(tag_length));
+}
+
+// One byte before the most that may be hashed, under outer words of its own, 9 to 16. With a tag length that is out of range, the
+// state is refused before the bytes are.
 pub(crate) fn limit(hash_number: u32) {
-    let inner = made::own(made::hash_of(hash_number), 4294967294);
-    let k0 = made::keyed(inner, [9, 10, 11, 12, 13, 14, 15, 16]);
+    let hash = made::hash_of(hash_number);
+    let size = algorithm::digest_size(hash);
+    let inner = made::own(hash, 4294967294);
+    let k0 = made::keyed(inner, size, [9, 10, 11, 12, 13, 14, 15, 16]);
     say::keyed(k0);
     let k1 = calls::update(k0, b"ab");
     let k2 = calls::update(k1, b"a");
     say::keyed(k2);
-    calls::tags(k2);
+    calls::tags(k2, size);
     let k3 = calls::update(k2, b"a");
     let k4 = calls::update(k3, b"");
-    calls::tags(k4);
+    calls::tags(k4, size);
+    let k5 = inputs::with_length(k4, 1);
+    say::keyed(k5);
+    let k6 = calls::update(k5, b"a");
+    calls::tags(k6, size);
 }

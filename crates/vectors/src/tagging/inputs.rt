@@ -1,4 +1,5 @@
 // Keys and tags made by hand, and keyed states made unsound.
+use crate::made;
 use hmac::Keyed;
 ghost use mathlib.Core.Path.{_≡_};
 ghost use lib.ListN.{length};
@@ -23,11 +24,26 @@ pub(crate) fn with_last(keyed: Keyed, byte: u8) -> Keyed {
     let outer = keyed.outer;
     Keyed {
         hash,
+        tag_length: keyed.tag_length,
         words,
         count: keyed.count,
         waiting,
         outer,
     }
+}
+
+// The same keyed state with another tag length.
+pub(crate) fn with_length(keyed: Keyed, tag_length: usize) -> Keyed {
+    let outer = keyed.outer;
+    made::keyed(made::inner(keyed), tag_length, outer)
+}
+
+// A start for full tags under the key "Jefe", after the message "abc".
+pub(crate) fn taken(hash_number: u32) -> Keyed {
+    let hash = made::hash_of(hash_number);
+    let started = hmac::start(hash_number, b"Jefe", algorithm::digest_size(hash));
+    let fed = hmac::update(started.keyed, b"abc");
+    fed.keyed
 }
 
 // The full tag of a keyed state with a5 after it, and a5 everywhere where it is refused.
@@ -36,7 +52,7 @@ pub(crate) fn full_tag(keyed: Keyed) -> [u8; 66] {
     let hash = keyed.hash;
     let size = algorithm::digest_size(hash);
     if size <= 66 {
-        hmac::tag(keyed, size, &mut out[0..size]);
+        hmac::tag(with_length(keyed, size), &mut out[0..size]);
     }
     out
 }

@@ -49,12 +49,12 @@ fn with_refused(hash_number: u32, name: &[u8], key: &[u8], message: &[u8], size:
     head(hash_number, name);
     say::text(b"cut in the middle with a refused piece between: ");
     let at = message.len() / 2;
-    let started = hmac::start(hash_number, key);
+    let started = hmac::start(hash_number, key, size);
     let first = hmac::update(started.keyed, &message[0..at]);
     let keyed = refused(first.keyed, &message[at..]);
     let second = hmac::update(keyed, &message[at..]);
     say::text(b", then ");
-    calls::tag(second.keyed, size, size);
+    calls::tag(second.keyed, size);
 }
 
 fn each_byte(keyed: Keyed, message: &[u8]) -> Keyed {
@@ -70,22 +70,22 @@ fn each_byte(keyed: Keyed, message: &[u8]) -> Keyed {
 fn byte_by_byte(hash_number: u32, name: &[u8], key: &[u8], message: &[u8], size: usize) {
     head(hash_number, name);
     say::text(b"byte by byte: ");
-    let started = hmac::start(hash_number, key);
+    let started = hmac::start(hash_number, key, size);
     let keyed = each_byte(started.keyed, message);
-    calls::tag(keyed, size, size);
+    calls::tag(keyed, size);
 }
 
 fn asked_between(hash_number: u32, name: &[u8], key: &[u8], message: &[u8], size: usize) {
     let at = message.len() / 2;
-    let started = hmac::start(hash_number, key);
+    let started = hmac::start(hash_number, key, size);
     let first = hmac::update(started.keyed, &message[0..at]);
     head(hash_number, name);
     say::text(b"the tag of the first half: ");
-    calls::tag(first.keyed, size, size);
+    calls::tag(first.keyed, size);
     let second = hmac::update(first.keyed, &message[at..]);
     head(hash_number, name);
     say::text(b"the tag after the second half: ");
-    calls::tag(second.keyed, size, size);
+    calls::tag(second.keyed, size);
 }
 
 fn each(hash_number: u32, name: &[u8], key: &[u8], message: &[u8], size: usize) {

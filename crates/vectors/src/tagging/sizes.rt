@@ -42,11 +42,13 @@ pub(crate) fn rows(hash_number: u32) {
     }
 }
 
-// An unknown hash and an unsound state are refused before the length is, and the length before the size.
+// An unknown hash is refused before the length, and the length before the size. A state of a length that is out of range is not
+// sound.
 fn row(hash_number: u32, row: [usize; 2]) {
     let tag_length = row[0];
     let size = row[1];
     by_message(hash_number, tag_length, size);
+    by_start(hash_number, tag_length, size);
     by_state(hash_number, tag_length, size);
 }
 
@@ -62,12 +64,19 @@ fn by_message(hash_number: u32, tag_length: usize, size: usize) {
     calls::tag_message(3, b"Jefe", b"abc", tag_length, size);
 }
 
+fn by_start(hash_number: u32, tag_length: usize, size: usize) {
+    say::text(b"  by start and tag: ");
+    let keyed = calls::start(hash_number, b"Jefe", tag_length);
+    let fed = hmac::update(keyed, b"abc");
+    say::text(b", then ");
+    calls::tag(fed.keyed, size);
+}
+
 fn by_state(hash_number: u32, tag_length: usize, size: usize) {
-    let started = hmac::start(hash_number, b"Jefe");
-    let fed = hmac::update(started.keyed, b"abc");
-    say::text(b"  by tag: ");
-    calls::tag(fed.keyed, tag_length, size);
-    let unsound = inputs::with_last(fed.keyed, 1);
+    let keyed = inputs::with_length(inputs::taken(hash_number), tag_length);
+    say::text(b"  by tag of a state with this length put in: ");
+    calls::tag(keyed, size);
+    let unsound = inputs::with_last(keyed, 1);
     say::text(b"  by tag of a state that is not sound: ");
-    calls::tag(unsound, tag_length, size);
+    calls::tag(unsound, size);
 }

@@ -49,6 +49,12 @@ returns-4 c =
     let size = start .pre .1 in
     sym (expand-output-too-long n prk info out (start .pre .0) (omega arith) (omega arith) (omega arith) (omega arith))
 
+fill-requires : tie.Need-fill-requires
+fill-requires c κs =
+    let start = c .before .before .before .before .before .before .before .before in
+    let size = start .pre .1 in
+    (record { key = record { known = start .pre .0; fits = omega arith }; short = omega arith; room = omega arith }, size)
+
 returns-5 : tie.Need-returns-5
 returns-5 c =
     let start = c .before .before .before .before .before .before .before .before .before .before .before in
@@ -63,4 +69,4 @@ returns-5 c =
 pub expand-for-spec : {M : Type 1} → statement M
 expand-for-spec =
     tie.close
-    (tie.spec returns returns-2 returns-3 (λ c. search needs) returns-4 (λ c κs. search needs) (λ c. search needs) returns-5)
+    (tie.spec returns returns-2 returns-3 (λ c. search needs) returns-4 fill-requires (λ c. search needs) returns-5)

@@ -17,7 +17,7 @@ use Rattle.algorithm.specs.Hashes.Laws.{digest-positive, digest-most}
 use Rattle.algorithm.specs.Refusals.{mostDigests}
 use Rattle.hkdf.specs.Hkdf.{stretch, stretches}
 use Rattle.hkdf.specs.Hkdf.Laws.{stretch-none, stretch-length, stretches-none, stretches-more, stretches-length}
-use Rattle.hkdf.proofs.Stretches.{start-size, start-room, next-block}
+use Rattle.hkdf.proofs.Stretches.{start-room, next-block}
 use Rattle.hkdf.proofs.Filling.{below, over-none, lent-more, full}
 use Rattle.hkdf.proofs.expanding.fill.Statement.{statement}
 use Rattle.hkdf.proofs.expanding.fill.Tie as tie
@@ -37,27 +37,27 @@ record Inv (n : ℕ) (prk info out₀ : List ℕ) (size : ℕ) (out block : List
   pub is : out ≡ over (stretches (hashOf n) prk info i) out₀
 
 abbrev Inv-loop : tie.InvT-loop
-Inv-loop number prk info out₀ keyed size block₀ filled₀ at₀ i₀ out block filled at i = Inv number prk info out₀ size out block filled at i
+Inv-loop number size prk info out₀ keyed block₀ filled₀ at₀ i₀ out block filled at i = Inv number prk info out₀ size out block filled at i
 
 abbrev μ-loop : tie.MeasureT-loop
-μ-loop number prk info out₀ keyed size block₀ filled₀ at₀ i₀ out block filled at i = length out₀ - at
+μ-loop number size prk info out₀ keyed block₀ filled₀ at₀ i₀ out block filled at i = length out₀ - at
 
 start-requires : tie.Need-start-requires Inv-loop μ-loop
-start-requires c κs = c .before .before .before .pre .key
+start-requires c κs = let start = c .before .before .before in (start .pre .0 .key, start .pre .1)
 
 loop-holds : tie.Need-loop-holds Inv-loop μ-loop
 loop-holds c =
-    let start = c .before .before .before .before .before in
+    let start = c .before .before .before .before in
     let h = hashOf (start .args .hash-number) in
     let prk = now (start .args .prk) in
     let info = now (start .args .info) in
     let out = now (start .args .out) in
-    let size = start-size h prk (c .before .start .ensures) (c .digest-size .ensures) in
+    let size = start .pre .1 in
     record {
       size-is = size;
       some = omega (arith, size, digest-positive h);
       most = omega (arith, size, digest-most h);
-      room = omega (arith, size, start .pre .room);
+      room = omega (arith, size, start .pre .0 .room);
       len = refl;
       place = omega arith;
       near = omega arith;
@@ -74,7 +74,8 @@ add-loop c = let v = c .loop .inv in omega (arith, v .near, v .room, v .most)
 add-next : tie.Need-add-next Inv-loop μ-loop
 add-next c =
     let l = c .before .loop in
-    let less = below (l .i) (c .before .before .digest-size .result) (length (now (c .before .before .before .before .before .before .before .args .out))) (omega arith) (l .inv .room) in
+    let start = c .before .before .before .before .before .before in
+    let less = below (l .i) (start .args .size) (length (now (start .args .out))) (omega arith) (l .inv .room) in
     omega arith
 
 slice-aggregate-stretch : tie.Need-slice-aggregate-stretch Inv-loop μ-loop
@@ -84,31 +85,32 @@ slice-aggregate-stretch c =
 
 stretch-requires : tie.Need-stretch-requires Inv-loop μ-loop
 stretch-requires c κs =
-    let start = c .before .before .before .before .before .before .before .before in
+    let start = c .before .before .before .before .before .before .before in
     let l = c .before .before .loop in
     let short : length (take (l .filled) (l .block)) ≤ 64 = omega (arith, length-take-le (l .filled) (l .block) (omega arith)) in
-    start-room (hashOf (start .args .hash-number)) (now (start .args .prk)) (c .before .before .before .before .start .ensures) (take (l .filled) (l .block)) (now (start .args .info)) short (start .pre .short)
+    start-room (hashOf (start .args .hash-number)) (now (start .args .prk)) (c .before .before .before .start .ensures) (start .pre .1) (take (l .filled) (l .block)) (now (start .args .info)) short (start .pre .0 .short)
 
 slice-aggregate-copy-prefix : tie.Need-slice-aggregate-copy-prefix Inv-loop μ-loop
 slice-aggregate-copy-prefix c =
     let whole : length (c .before .before .stretch .result) ≡ 64 = search needs in
-    sym (length-take-le (c .before .before .before .before .before .before .digest-size .result) (c .before .before .stretch .result) (omega arith))
+    let size = c .before .before .before .before .before .before .before .before .before .before .args .size in
+    sym (length-take-le size (c .before .before .stretch .result) (omega arith))
 
 loop-again : tie.Need-loop-again Inv-loop μ-loop
 loop-again c =
-    let start = c .before .before .before .before .before .before .before .before .before .before .before .before .before .before in
+    let start = c .before .before .before .before .before .before .before .before .before .before .before .before .before in
     let h = hashOf (start .args .hash-number) in
     let prk = now (start .args .prk) in
     let info = now (start .args .info) in
     let o = now (start .args .out) in
-    let size = c .before .before .before .before .before .before .before .before .before .digest-size .result in
+    let size = start .args .size in
     let l = c .before .before .before .before .before .before .before .before .loop in
     let v = l .inv in
     let less : l .i < mostDigests = below (l .i) size (length o) (omega arith) (v .room) in
     let T = stretch h prk info (l .i + 1) in
     let n : length T ≡ size = stretch-length h prk info (l .i) ∙ sym (v .size-is) in
     let written : take size (c .before .before .before .before .before .stretch .result) ≡ T =
-    ap (take size) (next-block h prk (c .before .before .before .before .before .before .before .before .before .before .start .ensures) info (l .i) (v .last) (c .before .before .before .before .before .stretch .ensures)) ∙ take-whole 64 size T n
+    ap (take size) (next-block h prk (c .before .before .before .before .before .before .before .before .before .start .ensures) (start .pre .1) info (l .i) (v .last) (c .before .before .before .before .before .stretch .ensures)) ∙ take-whole 64 size T n
     in
     let place : l .at ≡ length (stretches h prk info (l .i)) =
     v .place ∙ ap (λ (x : ℕ). l .i * x) (v .size-is) ∙ sym (stretches-length h prk info (l .i))
@@ -135,7 +137,7 @@ loop-again c =
 
 returns : tie.Need-returns Inv-loop μ-loop
 returns c =
-    let start = c .before .before .before .before .before .before .before in
+    let start = c .before .before .before .before .before .before in
     let h = hashOf (start .args .hash-number) in
     let o = now (start .args .out) in
     let l = c .before .loop in
@@ -146,6 +148,6 @@ returns c =
 pub fill-spec : {M : Type 1} → statement M
 fill-spec =
     tie.close
-    (tie.spec Inv-loop μ-loop start-requires (λ c κs. search needs) loop-holds add-loop add-next (λ c. search needs) slice-aggregate-stretch stretch-requires
+    (tie.spec Inv-loop μ-loop start-requires loop-holds add-loop add-next (λ c. search needs) slice-aggregate-stretch stretch-requires
     (λ c. search needs) (λ c. search needs) (λ c. search needs) (λ c. search needs) slice-aggregate-copy-prefix (λ c κs. search needs) (λ c. search needs)
     (λ c. search needs) loop-again (λ c. search needs) returns)

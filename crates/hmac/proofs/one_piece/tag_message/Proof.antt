@@ -17,7 +17,7 @@ returns-2 c =
     let start = c .before .before .before .before .before .before .before .before .before .before in
     c .before .before .tag .ensures
     ∙ message-tag (c .before .before .before .before .before .before .taken .ensures .whole (c .before .before .before .before .before .if1 .left))
-    (start .args .tag-length) (now (start .args .out))
+    (now (start .args .out))
 
 pub tag-message-spec : {M : Type 1} → statement M
 tag-message-spec =

@@ -16,8 +16,7 @@ returns-2 : tie.Need-returns-2
 returns-2 c =
     let start = c .before .before .before .before .before .before .before in
     c .verify .ensures
-    ∙ message-verify (c .before .before .before .taken .ensures .whole (c .before .before .if1 .left)) (start .args .tag-length)
-    (now (start .args .presented))
+    ∙ message-verify (c .before .before .before .taken .ensures .whole (c .before .before .if1 .left)) (now (start .args .presented))
 
 pub verify-message-spec : {M : Type 1} → statement M
 verify-message-spec = tie.close (tie.spec (λ c κs. search needs) returns (λ c κs. search needs) returns-2)

@@ -32,8 +32,8 @@ returns c =
     ∙ ap (masked x) (take-whole 128 (blockOf h) (formOf h key) (form-length h key)))
     in
     c .join .ensures
-    ∙ (λ i. joined ((c .before .before .before .after-pad .ensures ∙ pad 0x36) i) ((ap (λ (s : State). s .words) (c .before .before .after-pad2 .ensures ∙ pad 0x5c)) i))
-    ∙ sym (fresh-is h key)
+    ∙ (λ i. joined ((c .before .before .before .after-pad .ensures ∙ pad 0x36) i) (start .args .tag-length) ((ap (λ (s : State). s .words) (c .before .before .after-pad2 .ensures ∙ pad 0x5c)) i))
+    ∙ sym (fresh-is h key (start .args .tag-length))
 
 pub keyed-by-spec : {M : Type 1} → statement M
 keyed-by-spec =

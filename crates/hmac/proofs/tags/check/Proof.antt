@@ -12,17 +12,13 @@ returns c = rw (sym (c .before .sound .ensures) ∙ not-true _ (c .if1 .taken))
 
 returns-2 : tie.Need-returns-2
 returns-2 c =
-    rw (sym (c .before .before .before .sound .ensures) ∙ not-false _ (c .before .before .if1 .left), sym (c .before .length-allowed .ensures) ∙ not-true _ (c .if2 .taken))
+    let start = c .before .before .before .before in
+    rw (sym (c .before .before .sound .ensures) ∙ not-false _ (c .before .if1 .left), ne-eqb (length (now (start .args .bytes))) (start .args .keyed .«tag_length») (c .if2 .taken))
 
 returns-3 : tie.Need-returns-3
 returns-3 c =
-    let start = c .before .before .before .before .before .before in
-    rw (sym (c .before .before .before .before .sound .ensures) ∙ not-false _ (c .before .before .before .if1 .left), sym (c .before .before .length-allowed .ensures) ∙ not-false _ (c .before .if2 .left), ne-eqb (length (now (start .args .bytes))) (start .args .tag-length) (c .if3 .taken))
-
-returns-4 : tie.Need-returns-4
-returns-4 c =
-    let start = c .before .before .before .before .before .before in
-    rw (sym (c .before .before .before .before .sound .ensures) ∙ not-false _ (c .before .before .before .if1 .left), sym (c .before .before .length-allowed .ensures) ∙ not-false _ (c .before .if2 .left), eq-eqb (length (now (start .args .bytes))) (start .args .tag-length) (c .if3 .left))
+    let start = c .before .before .before .before in
+    rw (sym (c .before .before .sound .ensures) ∙ not-false _ (c .before .if1 .left), eq-eqb (length (now (start .args .bytes))) (start .args .keyed .«tag_length») (c .if2 .left))
 
 pub check-spec : {M : Type 1} → statement M
-check-spec = tie.close (tie.spec (λ c κs. search needs) returns (λ c κs. search needs) returns-2 returns-3 returns-4)
+check-spec = tie.close (tie.spec (λ c κs. search needs) returns returns-2 returns-3)

@@ -67,7 +67,7 @@ ended-requires-2 c κs =
     let start = c .before .before .before .before .before .before .before in
     let k = start .args .keyed in
     last-sound k
-    (typed-held k (start .good .0 .1 .1 .1 .0 .1 .0 .1) (start .good .0 .1 .1 .1 .1 .1 .0 .1 .0 .1) (start .good .0 .1 .1 .1 .1 .1 .1 .0 .1 .0 .1) (start .pre))
+    (typed-held k (start .good .0 .1 .1 .1 .1 .0 .1 .0 .1) (start .good .0 .1 .1 .1 .1 .1 .1 .0 .1 .0 .1) (start .good .0 .1 .1 .1 .1 .1 .1 .1 .0 .1 .0 .1) (start .pre))
     (c .before .before .before .before .before .before .inner .ensures) (c .before .before .before .before .outer .ensures)
     (c .before .before .before .before .before .ended .ensures) (c .before .before .before .digest-size .ensures) (c .before .update .ensures)
 
@@ -77,7 +77,7 @@ returns c =
     let k = start .args .keyed in
     c .ended2 .ensures
     ∙ full-end k
-    (typed-held k (start .good .0 .1 .1 .1 .0 .1 .0 .1) (start .good .0 .1 .1 .1 .1 .1 .0 .1 .0 .1) (start .good .0 .1 .1 .1 .1 .1 .1 .0 .1 .0 .1) (start .pre))
+    (typed-held k (start .good .0 .1 .1 .1 .1 .0 .1 .0 .1) (start .good .0 .1 .1 .1 .1 .1 .1 .0 .1 .0 .1) (start .good .0 .1 .1 .1 .1 .1 .1 .1 .0 .1 .0 .1) (start .pre))
     (c .before .before .before .before .before .before .before .inner .ensures) (c .before .before .before .before .before .outer .ensures)
     (c .before .before .before .before .before .before .ended .ensures) (c .before .before .before .before .digest-size .ensures) (c .before .before .update .ensures)
 

@@ -11,20 +11,20 @@ use Rattle.hmac.proofs.tags.tag.Tie as tie
 returns : tie.Need-returns
 returns c =
     let start = c .before .before .before .before in
-    sym (tag-refused (start .args .keyed) (start .args .tag-length) (now (start .args .out)) (c .before .check .ensures) (c .if1 .taken))
+    sym (tag-refused (start .args .keyed) (now (start .args .out)) (c .before .check .ensures) (c .if1 .taken))
 
 full-requires : tie.Need-full-requires
 full-requires c κs =
     let start = c .before .before .before .before in
-    taggable (start .args .keyed) (start .args .tag-length) (now (start .args .out)) (c .before .check .ensures) (c .if1 .left) .sound
+    taggable (start .args .keyed) (now (start .args .out)) (c .before .check .ensures) (c .if1 .left) .sound
 
 returns-2 : tie.Need-returns-2
 returns-2 c =
     let start = c .before .before .before .before .before .before .before .before .before .before in
     let k = start .args .keyed in
-    let T = taggable k (start .args .tag-length) (now (start .args .out)) (c .before .before .before .before .before .before .before .check .ensures) (c .before .before .before .before .before .before .if1 .left) in
+    let T = taggable k (now (start .args .out)) (c .before .before .before .before .before .before .before .check .ensures) (c .before .before .before .before .before .before .if1 .left) in
     tagged T
-    (typed-held k (start .good .0 .1 .1 .1 .0 .1 .0 .1) (start .good .0 .1 .1 .1 .1 .1 .0 .1 .0 .1) (start .good .0 .1 .1 .1 .1 .1 .1 .0 .1 .0 .1) (T .sound))
+    (typed-held k (start .good .0 .1 .1 .1 .1 .0 .1 .0 .1) (start .good .0 .1 .1 .1 .1 .1 .1 .0 .1 .0 .1) (start .good .0 .1 .1 .1 .1 .1 .1 .1 .0 .1 .0 .1) (T .sound))
     (c .before .before .before .before .before .full .ensures) (c .before .before .copy-prefix .ensures)
 
 pub tag-spec : {M : Type 1} → statement M

@@ -2,18 +2,19 @@
 use mathlib.Core.Path.{_≡_, ap, subst, _∙_}
 use mathlib.Core.Bool.{true}
 use mathlib.Core.List.{List, _++_}
-use Prim.Native.Nat.{ℕ}
+use Prim.Native.Nat.{ℕ, _-_, _≤_}
 use native.Mathlib.Omega.{arith}
-use lib.ListN.{take, length-append}
+use lib.ListN.{length, length-append}
 use borrow.Author.Needs.{needs}
 use Rattle.algorithm.specs.declared.hashes.Hash.{Hash}
-use Rattle.algorithm.specs.Hashes.{names, hashOf}
+use Rattle.algorithm.specs.Hashes.{names, hashOf, blockOf, allowed}
 use Rattle.algorithm.specs.Hashes.Laws.{block-most}
+use Rattle.algorithm.specs.Refusals.{mostBytes}
 use Rattle.hmac.specs.Hmac.{tagOf}
-use Rattle.hmac.specs.Keyed.{Message, freshKeyed, afterKeyed}
+use Rattle.hmac.specs.Keyed.{freshKeyed, afterKeyed}
 use Rattle.hmac.specs.Keyed.Laws.{keyed-count, keyed-held}
-use Rattle.hmac.specs.Calls.{allowed, startOf, updateOf, tagAnswer}
-use Rattle.hmac.specs.Calls.Laws.{start-accepted, tag-accepted}
+use Rattle.hmac.specs.Calls.{startOf, updateOf, tagAnswer}
+use Rattle.hmac.specs.Calls.Laws.{start-accepted, message-tag, tag-message-accepted}
 use Rattle.hmac.specs.Pieces.{Leads}
 use Rattle.hmac.specs.Pieces.Leads.{one, more}
 use Rattle.hmac.specs.Pieces.Laws.{leads-after, fresh-message}
@@ -31,22 +32,27 @@ module _ {n : ℕ} {key a b out : List ℕ} (p : TwoPieces n key a b out) where
   made : (names n ≡ true) × (hashOf n ≡ hashNamed n)
   made = report-hash n (p .known)
 
-  both-took : {s : Started} {f g : Fed} → s ≡ startOf n key → f ≡ updateOf (s .keyed) a → g ≡ updateOf (f .keyed) b
-      → g .keyed ≡ afterKeyed (freshKeyed (hashOf n) key) (a ++ b)
+  asked : allowed (hashOf n) 32 ≡ true
+  asked = ap (λ (h : Hash). allowed h 32) (made .1) ∙ fingerprint-allowed n
+
+  both-took : {s : Started} {f g : Fed} → s ≡ startOf n key 32 → f ≡ updateOf (s .keyed) a → g ≡ updateOf (f .keyed) b
+      → g .keyed ≡ afterKeyed (freshKeyed (hashOf n) key 32) (a ++ b)
   both-took {s} {f} {g} es ef eg =
       let h : Hash = hashOf n in
-      let start : s .keyed ≡ freshKeyed h key = ap (λ (r : Started). r .keyed) (es ∙ start-accepted n key (made .0) (p .key-fits)) in
-      let both : Leads (freshKeyed h key) (a ++ b) (g .keyed) = subst (λ (k : Keyed). Leads k (a ++ b) (g .keyed)) start (more a ef (one eg)) in
-      leads-after both (keyed-held h key) (omega (arith, p .fits, keyed-count h key, block-most h, length-append a b))
+      let start : s .keyed ≡ freshKeyed h key 32 = ap (λ (r : Started). r .keyed) (es ∙ start-accepted n key 32 (made .0) (p .key-fits) asked) in
+      let both : Leads (freshKeyed h key 32) (a ++ b) (g .keyed) = subst (λ (k : Keyed). Leads k (a ++ b) (g .keyed)) start (more a ef (one eg)) in
+      leads-after both (keyed-held h key 32 asked) (omega (arith, p .fits, keyed-count h key 32, block-most h, length-append a b))
 
-  both-tagged : {k : Keyed} → k ≡ afterKeyed (freshKeyed (hashOf n) key) (a ++ b) → {r : ℕ} {o : List ℕ}
-      → _≡_ {A = ℕ × List ℕ} (r, o) (tagAnswer k 32 out) → o ≡ tagOf (hashOf n) key 32 (a ++ b)
+  both-tagged : {k : Keyed} → k ≡ afterKeyed (freshKeyed (hashOf n) key 32) (a ++ b) → {r : ℕ} {o : List ℕ}
+      → _≡_ {A = ℕ × List ℕ} (r, o) (tagAnswer k out) → o ≡ tagOf (hashOf n) key 32 (a ++ b)
   both-tagged {k} e {r} {o} t =
-      let after : Keyed = afterKeyed (freshKeyed (hashOf n) key) (a ++ b) in
-      let m : Message after n key (a ++ b) = fresh-message n key (a ++ b) (made .0) (p .key-fits) (rw length-append (p .fits)) in
-      let asked : allowed (after .hash) 32 ≡ true = ap (λ (h : Hash). allowed h 32) (m .hash ∙ made .1) ∙ fingerprint-allowed n in
-      ap (λ (x : ℕ × List ℕ). x .1) (t ∙ ap (λ (x : Keyed). tagAnswer x 32 out) e ∙ tag-accepted after 32 out (m .sound) asked (p .size))
-      ∙ ap (take 32) (m .tag)
+      let fits : length (a ++ b) ≤ mostBytes - blockOf (hashOf n) = rw length-append (p .fits) in
+      let m = fresh-message n key (a ++ b) 32 (made .0) (p .key-fits) asked fits in
+      ap (λ (x : ℕ × List ℕ). x .1)
+      (t
+      ∙ ap (λ (x : Keyed). tagAnswer x out) e
+      ∙ message-tag m out
+      ∙ tag-message-accepted n key (a ++ b) 32 out (made .0) (p .key-fits) fits asked (p .size))
 
 returns : tie.Need-returns
 returns c =

@@ -11,12 +11,12 @@ use Rattle.octets.specs.Number.{numberAt}
 use Rattle.octets.specs.Parts.{part-all}
 use Rattle.octets.specs.Same.{equal}
 use Rattle.algorithm.specs.declared.hashes.Hash.{Hash}
-use Rattle.algorithm.specs.Hashes.{hashOf, blockOf}
+use Rattle.algorithm.specs.Hashes.{hashOf, blockOf, allowed}
 use Rattle.algorithm.specs.Hashes.Laws.{block-most}
 use Rattle.algorithm.specs.Refusals.{done, tagDiffers, mostBytes}
 use Rattle.algorithm.specs.Checks.{firstFailing}
 use Rattle.hmac.specs.Hmac.{tagOf}
-use Rattle.hmac.specs.Calls.{allowed, verifyMessageAnswer}
+use Rattle.hmac.specs.Calls.{verifyMessageAnswer}
 use Rattle.hmac.specs.Calls.Laws.{verify-message-compared}
 use Rattle.report.specs.Reading.{hashIn, tagSizeIn, tagStart, beforeTag}
 use Rattle.report.specs.Reading.Laws.{short}

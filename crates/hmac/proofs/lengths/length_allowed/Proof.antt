@@ -1,4 +1,4 @@
--- `hmac::tags::length_allowed`: below, above, or in the range. Assumes nothing.
+-- `hmac::lengths::length_allowed`: below, above, or in the range. Assumes nothing.
 use mathlib.Core.Path.{sym, ap}
 use Prim.Native.Nat.{_≤_}
 use native.Mathlib.Omega.{arith}
@@ -6,9 +6,9 @@ use lib.Dec.{leb}
 use borrow.Author.Needs.{needs}
 use borrow.Author.Tests.{le-leb}
 use Rattle.algorithm.specs.Hashes.{shortestOf}
-use Rattle.hmac.specs.Calls.Laws.{length-below}
-use Rattle.hmac.proofs.tags.length_allowed.Statement.{statement}
-use Rattle.hmac.proofs.tags.length_allowed.Tie as tie
+use Rattle.algorithm.specs.Hashes.Laws.{length-below}
+use Rattle.hmac.proofs.lengths.length_allowed.Statement.{statement}
+use Rattle.hmac.proofs.lengths.length_allowed.Tie as tie
 
 returns : tie.Need-returns
 returns c =
