@@ -32,8 +32,8 @@ enum {
     TIRMUZZLE_DONE = 0,                       /* done, or the tag matches */
     TIRMUZZLE_TAG_DIFFERS = 1,                /* the tag differs */
     TIRMUZZLE_UNKNOWN_HASH = 2,               /* the number names no hash */
-    TIRMUZZLE_KEY_TOO_LONG = 3,               /* key, salt or PRK over 4,294,967,295 bytes */
-    TIRMUZZLE_MESSAGE_TOO_LONG = 4,           /* more than 4,294,967,295 bytes to hash; for a tag the key's block counts */
+    TIRMUZZLE_KEY_TOO_LONG = 3,               /* key, salt or PRK over 2^61 - 1 bytes */
+    TIRMUZZLE_MESSAGE_TOO_LONG = 4,           /* more than 2^61 - 1 bytes to hash; for a tag the key's block counts */
     TIRMUZZLE_TAG_LENGTH_OUT_OF_RANGE = 5,    /* a tag has 16 to 32 bytes under hash 1, 32 to 64 under hash 2 */
     TIRMUZZLE_WRONG_SIZE = 6,                 /* a presented tag, or an output of a fixed size, of another size; or sites to be
                                                  written, in buffers of unequal length */
@@ -175,7 +175,7 @@ uint32_t tirmuzzle_report_fingerprint(const uint8_t *report, size_t report_lengt
  *     14  a label's length is 0 or more than 48
  *     15  labels does not have as many bytes as the lengths add up to
  *     16  the live bytes of all sites add up to more than 2^64 - 1
- *      3  the tag key has more than 4,294,967,295 bytes
+ *      3  the tag key has more than 2^61 - 1 bytes
  *     18  out is too short for the report */
 uint32_t tirmuzzle_report_write(uint32_t hash, uint32_t tenant, uint64_t machine, uint64_t report_number, uint64_t send_time,
                                 uint8_t attempt, uint64_t memory, const uint8_t *labels, size_t labels_length,
@@ -232,9 +232,9 @@ uint32_t tirmuzzle_report_site(const uint8_t *report, size_t report_length, uint
  *
  *     10  the ledger is not sound
  *         the numbers of reading
- *      3  the tag key has more than 4,294,967,295 bytes
+ *      3  the tag key has more than 2^61 - 1 bytes
  *      1  the tag differs
- *      3  the fingerprint key has more than 4,294,967,295 bytes
+ *      3  the fingerprint key has more than 2^61 - 1 bytes
  *     19  the report is not seen, and no record is free
  *     20  the report is not seen, and the live bytes of the ledger and of the report add up to more than 2^64 - 1 */
 uint32_t tirmuzzle_ledger_submit(struct tirmuzzle_record *records, size_t records_count, const uint8_t *report, size_t report_length,

@@ -7,7 +7,7 @@ import hashlib
 import math
 import sys
 
-MOST_BYTES = 4294967295
+MOST_BYTES = 2**61 - 1
 LARGEST_BLOCK = 128
 UNTOUCHED = 0xA5
 
@@ -292,6 +292,9 @@ def states(hash):
         (0, None, 2**64 - 1),
         (2**32 - 1, None, 0),
         (2**32, None, 0),
+        (MOST_BYTES - 1, None, 0),
+        (MOST_BYTES, None, 0),
+        (MOST_BYTES + 1, None, 0),
         (2**64 - 1, None, 0),
     ]:
         state = State(hash, [0] * 7 + [word], count, b"" if place is None else bytes(place) + b"\1")
@@ -306,6 +309,15 @@ def states(hash):
 def own(hash, count):
     """A sound state with words of its own."""
     return State(hash, range(1, 9), count, bytes(range(1, count % hash.block + 1)))
+
+
+def piece_lines(state, piece):
+    """A piece, with the states before and after it."""
+    yield str(state)
+    line, state = piece_line(state, piece)
+    yield line
+    yield str(state)
+    yield end_line(state)
 
 
 def runs(hash):
@@ -329,15 +341,11 @@ def runs(hash):
         (127, 3, 0),
     ]:
         state = own(hash, count)
-        yield str(state)
-        line, state = piece_line(state, pattern(blocks * hash.block + left)[state.waiting_count() :])
-        yield line
-        yield str(state)
-        yield end_line(state)
+        yield from piece_lines(state, pattern(blocks * hash.block + left)[state.waiting_count() :])
 
 
 def limit(hash):
-    """One byte before the most that may be hashed."""
+    """One byte before the most that may be hashed; then pieces of several blocks that end there, and one byte past it."""
     state = own(hash, MOST_BYTES - 1)
     yield str(state)
     line, state = piece_line(state, b"ab")
@@ -351,6 +359,19 @@ def limit(hash):
     line, state = piece_line(state, b"")
     yield line
     yield end_line(state)
+    for before, length in ((385, 385), (384, 385), (383, 383), (383, 384)):
+        yield from piece_lines(own(hash, MOST_BYTES - before), pattern(length))
+
+
+# Counts that are about to pass what a smaller number can hold, of bytes or of bits. A block of either hash ends at the third.
+LARGE_COUNTS = (2**29 - 1, 2**31 - 1, 2**32 - LARGEST_BLOCK, 2**32 - 1, 2**60 - 1)
+
+
+def large_counts(hash):
+    """One byte, and several blocks, after each of these counts."""
+    for count in LARGE_COUNTS:
+        for piece in (b"a", pattern(385)):
+            yield from piece_lines(own(hash, count), piece)
 
 
 def sizes(number, hash):
@@ -382,5 +403,6 @@ def lines():
         yield from runs(hash)
         yield from states(hash)
         yield from limit(hash)
+        yield from large_counts(hash)
         yield from sizes(number, hash)
         yield from going_on(hash)

@@ -1,7 +1,7 @@
 """Ledgers, reports and keys on which the calls on a ledger are run, each with what tests/ledger_rules.py answers to it.
 
 Where a case was made for one answer, it says so, and the rules are held to that answer too. A storm is a sequence of submissions to a
-ledger that starts empty; the total after it must be what the rules count from the sequence alone. 3, which takes a key over 4 GiB, is
+ledger that starts empty; the total after it must be what the rules count from the sequence alone. 3, which takes a key of 2^61 bytes, is
 left to tests/outside/limits.c."""
 import collections
 import itertools

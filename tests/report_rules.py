@@ -8,7 +8,7 @@ HASHES = {1: hashlib.sha256, 2: hashlib.sha512}
 DIGEST_BYTES = {1: 32, 2: 64}
 BLOCK_BYTES = {1: 64, 2: 128}
 TAG_BYTES = {1: 16, 2: 32}
-MOST_KEY_BYTES = 2**32 - 1
+MOST_KEY_BYTES = 2**61 - 1
 MOST_LIVE_BYTES = 2**64 - 1
 
 # Where each field stands and how many bytes it has: count, version, hash, tenant, machine, report number, send time, attempt,

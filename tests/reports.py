@@ -44,7 +44,7 @@ RFC_PRK = "077709362c2e32df0ddc3f0dc47bba6390b6c73bb50f9c3122ec844ad7c2b3e5"
 RFC_INFO = "f0f1f2f3f4f5f6f7f8f9"
 RFC_KEY = "3cb25f25faacd57a90434f64d0362f2a2d2d0a90cf1a5a4c5db02d56ecc4c5bf"
 
-# The numbers that each call must reach, at least twice. 3 would take a key over 4 GiB.
+# The numbers that each call must reach, at least twice. 3 would take a key of 2^61 bytes.
 READ_NUMBERS = (0, 2, 11, 12, 13, 14, 15, 16)
 NUMBERS = dict(
     read=READ_NUMBERS, site=READ_NUMBERS + (17,), check=READ_NUMBERS + (1,), fingerprint=READ_NUMBERS + (6,), keys=(0, 2, 6, 7),

@@ -258,6 +258,15 @@ def piece_line(keyed, piece):
     return f"  update, length {len(piece)}: {back(refusal, keyed, after)}", after
 
 
+def piece_lines(keyed, piece):
+    """A piece between the keyed states before and after it, and the tags that it leads to."""
+    yield str(keyed)
+    line, keyed = piece_line(keyed, piece)
+    yield line
+    yield str(keyed)
+    yield from tag_lines(keyed, keyed.tag_length)
+
+
 def going_on(keyed, size):
     yield "  sound" if keyed.sound() else "  not sound"
     yield from tag_lines(keyed, size)
@@ -289,11 +298,15 @@ def lengths(number):
         yield from going_on(keyed, min(tag_length, 66))
 
 
+def own(number, count, tag_length):
+    """A keyed state that no call made, with words of its own."""
+    return Keyed(hash_vectors.own(HASHES[number], count), tag_length, range(9, 17))
+
+
 def state_lengths(number):
-    """A sound state of words of its own, with each tag length in turn."""
-    hash = HASHES[number]
+    """Such states with each tag length, sound where it is in range."""
     for tag_length in EDGES:
-        keyed = Keyed(State(hash, range(1, 9), 200, bytes(range(1, 200 % hash.block + 1))), tag_length, range(9, 17))
+        keyed = own(number, 200, tag_length)
         yield str(keyed)
         yield from going_on(keyed, min(tag_length, 66))
 
@@ -336,6 +349,9 @@ def states(number):
         (128, None, 0, 2**64 - 1),
         (2**32 - 1, None, 0, 0),
         (2**32, None, 0, 0),
+        (MOST_BYTES - 1, None, 0, 0),
+        (MOST_BYTES, None, 0, 0),
+        (MOST_BYTES + 1, None, 0, 0),
         (2**64 - 1, None, 0, 0),
     ]:
         waiting = b"" if place is None else bytes(place) + b"\1"
@@ -346,9 +362,10 @@ def states(number):
 
 
 def limit(number):
-    """One byte before the most that may be hashed. A tag length that is out of range is refused before the bytes are."""
-    hash, count = HASHES[number], MOST_BYTES - 1
-    keyed = Keyed(State(hash, range(1, 9), count, bytes(range(1, count % hash.block + 1))), hash.size, range(9, 17))
+    """One byte before the most that may be hashed. A tag length that is out of range is refused before the bytes are. Then pieces of
+    several blocks that end there, and one byte past it."""
+    hash = HASHES[number]
+    keyed = own(number, MOST_BYTES - 1, hash.size)
     yield str(keyed)
     line, keyed = piece_line(keyed, b"ab")
     yield line
@@ -366,6 +383,15 @@ def limit(number):
     line, keyed = piece_line(keyed, b"a")
     yield line
     yield from tag_lines(keyed, hash.size)
+    for before, length in ((300, 300), (299, 300), (255, 255), (255, 256)):
+        yield from piece_lines(own(number, MOST_BYTES - before, hash.size), pattern(length))
+
+
+def large_counts(number):
+    """One byte, and several blocks, after each large count."""
+    for count in hash_vectors.LARGE_COUNTS:
+        for piece in (b"a", pattern(300)):
+            yield from piece_lines(own(number, count, HASHES[number].size), piece)
 
 
 def sizes(number):
@@ -432,5 +458,6 @@ def lines():
         yield from states(number)
         yield from state_lengths(number)
         yield from limit(number)
+        yield from large_counts(number)
         yield from sizes(number)
         yield from comparison(number)

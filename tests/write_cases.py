@@ -164,7 +164,7 @@ def output_sizes(hash):
             yield writing(sites, 18, size=size, hash=hash)
 
 
-# Faults in the order of the checks that find them, with their numbers. 3, before the last, would take a key over 4 GiB.
+# Faults in the order of the checks that find them, with their numbers. 3, before the last, would take a key of 2^61 bytes.
 FAULTS = dict(hash=2, column=6, sites=13, label=14, bytes=15, sum=16, size=18)
 
 

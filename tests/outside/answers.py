@@ -2,7 +2,7 @@
 
 Hashes and HMAC come from Python's own library and the rules on reports from tests/report_rules.py. Each function takes what the C
 call takes, with the size of the output in place of the output, and gives the number and the output's content, which is None where
-nothing is written. Numbers 3 and 4, which take keys and messages over 4 GiB, are left to tests/outside/limits.c. The calls on a
+nothing is written. Numbers 3 and 4, which take keys and messages of some 2^61 bytes, are left to tests/outside/limits.c. The calls on a
 ledger have no function here: tests/ledger_cases.py gives its cases with their answers."""
 import report_rules
 from report_rules import DIGEST_BYTES, HASHES, full_tag

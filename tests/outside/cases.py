@@ -44,7 +44,7 @@ CALLS = (
     "report_fingerprint", "report_keys", "report_check", "report_read", "report_site", "report_write",
     "ledger_submit", "ledger_total",
 )
-# The numbers that each call can be brought to answer here. 3 and 4 take more than 4 GiB, and are left to limits.c.
+# The numbers that each call can be brought to answer here. 3 and 4 take some 2^61 bytes, and are left to limits.c.
 READING = (0, 2, 11, 12, 13, 14, 15, 16)
 NUMBERS = dict(
     digest=(0, 2, 6), tag=(0, 2, 5, 6), verify=(0, 1, 2, 5, 6), extract=(0, 2, 6), expand=(0, 2, 7, 8, 9),

@@ -1,6 +1,6 @@
 -- Believed: the numbers that come back, and the limits that several layers share, by name (docs/PROTOCOL.md, "The numbers that come back").
 -- Assumes nothing.
-use Prim.Native.Nat.{ℕ}
+use Prim.Native.Nat.{ℕ, _-_, _^_}
 
 -- done, or the tag matches
 abbrev pub done : ℕ
@@ -88,7 +88,7 @@ totalTooLarge = 20
 
 -- the most bytes of a key, and the most bytes hashed in all (refusals 3 and 4)
 abbrev pub mostBytes : ℕ
-mostBytes = 4294967295
+mostBytes = 2 ^ 61 - 1
 
 -- the most bytes of info (refusal 8), and the most digests of an output (refusal 9)
 abbrev pub mostInfo : ℕ

@@ -45,7 +45,7 @@ pub const LEDGER_FULL: u32 = 19;
 pub const TOTAL_TOO_LARGE: u32 = 20;
 
 // The most bytes of a key, and the most bytes hashed in all (refusals 3 and 4).
-pub const MOST_BYTES: u64 = 4294967295;
+pub const MOST_BYTES: u64 = (1 << 61) - 1;
 // The most bytes of info (refusal 8).
 pub const MOST_INFO: usize = 1024;
 // The most digests of an output (refusal 9).

@@ -14,6 +14,7 @@ pub(crate) fn run() {
         runs::all(number);
         edges::states(number);
         edges::limit(number);
+        edges::large_counts(number);
         edges::sizes(number);
         edges::going_on(number);
     }

@@ -8,6 +8,16 @@ ghost use Prim.Native.Nat.{_<_};
 // Numbers that name a hash, and numbers that name none.
 pub(crate) const NUMBERS: [u32; 5] = [0, 1, 2, 3, 4294967295];
 
+// Counts that are about to pass what a smaller number can hold: with a few bytes more they reach 2^31 or 2^32 bytes, or 2^32 or 2^63
+// bits. At 2^32 - 128 a block of either hash ends, so that whole blocks lead past 2^32.
+pub(crate) const LARGE_COUNTS: [u64; 5] = [
+    (1 << 29) - 1,
+    (1 << 31) - 1,
+    (1 << 32) - 128,
+    (1 << 32) - 1,
+    (1 << 60) - 1,
+];
+
 // The hash that a number names, and SHA-256 where it names none.
 pub(crate) fn hash_of(hash_number: u32) -> Hash {
     match algorithm::which(hash_number) {

@@ -15,6 +15,7 @@ pub(crate) fn run() {
         edges::states(number);
         edges::state_lengths(number);
         edges::limit(number);
+        edges::large_counts(number);
         sizes::rows(number);
         comparison::rows(number);
     }

@@ -146,9 +146,14 @@ module _ (n : ℕ) (key m : List ℕ) (t : ℕ) (bytes : List ℕ) where
     unfolding verifyMessageAnswer
     verify-message-refused = sym (refuses-first (sizeChecks t bytes ++ compareChecks bytes (tagOf (hashOf n) key t m)))
 
-  pub tag-message-key : names n ≡ true → mostBytes < length key → tagMessageAnswer n key m t bytes ≡ written keyTooLong bytes
-  unfolding tagMessageAnswer
-  tag-message-key h l = rw (h, lt-leb (length key) mostBytes l)
+  module _ (h : names n ≡ true) (l : mostBytes < length key) where
+    pub tag-message-key : tagMessageAnswer n key m t bytes ≡ written keyTooLong bytes
+    unfolding tagMessageAnswer
+    tag-message-key = rw (h, lt-leb (length key) mostBytes l)
+
+    pub verify-message-key : verifyMessageAnswer n key m t bytes ≡ keyTooLong
+    unfolding verifyMessageAnswer
+    verify-message-key = rw (h, lt-leb (length key) mostBytes l)
 
   -- once hash and key pass, a tag length out of range is refused whatever the message is, too long or not
   module _ (h : names n ≡ true) (l : length key ≤ mostBytes) (a : allowed (hashOf n) t ≡ false) where
@@ -160,10 +165,14 @@ module _ (n : ℕ) (key m : List ℕ) (t : ℕ) (bytes : List ℕ) where
     unfolding verifyMessageAnswer
     verify-message-not-allowed = rw (h, le-leb (length key) mostBytes l, a)
 
-  pub tag-message-too-long : names n ≡ true → length key ≤ mostBytes → allowed (hashOf n) t ≡ true → mostBytes - blockOf (hashOf n) < length m
-      → tagMessageAnswer n key m t bytes ≡ written messageTooLong bytes
-  unfolding tagMessageAnswer
-  tag-message-too-long h l a g = rw (h, le-leb (length key) mostBytes l, a, lt-leb (length m) (mostBytes - blockOf (hashOf n)) g)
+  module _ (h : names n ≡ true) (l : length key ≤ mostBytes) (a : allowed (hashOf n) t ≡ true) (g : mostBytes - blockOf (hashOf n) < length m) where
+    pub tag-message-too-long : tagMessageAnswer n key m t bytes ≡ written messageTooLong bytes
+    unfolding tagMessageAnswer
+    tag-message-too-long = rw (h, le-leb (length key) mostBytes l, a, lt-leb (length m) (mostBytes - blockOf (hashOf n)) g)
+
+    pub verify-message-too-long : verifyMessageAnswer n key m t bytes ≡ messageTooLong
+    unfolding verifyMessageAnswer
+    verify-message-too-long = rw (h, le-leb (length key) mostBytes l, a, lt-leb (length m) (mostBytes - blockOf (hashOf n)) g)
 
   pub tag-message-wrong-size : names n ≡ true → length key ≤ mostBytes → allowed (hashOf n) t ≡ true → length m ≤ mostBytes - blockOf (hashOf n)
       → (length bytes ≡ t → ⊥)

@@ -36,6 +36,14 @@ pub(crate) fn update(state: State, piece: &[u8]) -> State {
     next
 }
 
+// A piece between the states before and after it, and the end that it leads to.
+pub(crate) fn piece(state: State, bytes: &[u8]) {
+    say::state(state);
+    let next = update(state, bytes);
+    say::state(next);
+    end(next);
+}
+
 // A line on the end of a state, into an output of the right size.
 pub(crate) fn end(state: State) {
     let h = state.hash;

@@ -1,8 +1,11 @@
-// The edges that docs/PROTOCOL.md draws for a hash: starts, sound and unsound states, the limit of bytes, sizes of the output.
+// The edges that docs/PROTOCOL.md draws for a hash: starts, sound and unsound states, the limit of bytes, sizes of the output; and
+// large counts.
 use crate::hashing::calls;
+use crate::hashing::messages;
 use crate::made;
 use crate::say;
 use algorithm::Hash;
+use hash::State;
 
 // A start for each number, and how what came back goes on.
 pub(crate) fn starts() {
@@ -26,7 +29,7 @@ fn start(hash_number: u32) {
 }
 
 // States that differ from zeros in the count, in one waiting byte (none at place 128) and in the last word.
-const STATES: [[u64; 3]; 17] = [
+const STATES: [[u64; 3]; 20] = [
     [0, 128, 0],
     [0, 0, 0],
     [0, 64, 0],
@@ -43,12 +46,15 @@ const STATES: [[u64; 3]; 17] = [
     [0, 128, 18446744073709551615],
     [4294967295, 128, 0],
     [4294967296, 128, 0],
+    [algorithm::MOST_BYTES - 1, 128, 0],
+    [algorithm::MOST_BYTES, 128, 0],
+    [algorithm::MOST_BYTES + 1, 128, 0],
     [18446744073709551615, 128, 0],
 ];
 
 pub(crate) fn states(hash_number: u32) {
     let hash = made::hash_of(hash_number);
-    for i in 0..17 {
+    for i in 0..20 {
         state(hash, STATES[i]);
     }
 }
@@ -64,7 +70,7 @@ fn state(hash: Hash, row: [u64; 3]) {
 
 // One byte before the most that may be hashed.
 pub(crate) fn limit(hash_number: u32) {
-    let s0 = made::own(made::hash_of(hash_number), 4294967294);
+    let s0 = made::own(made::hash_of(hash_number), algorithm::MOST_BYTES - 1);
     say::state(s0);
     let s1 = calls::update(s0, b"ab");
     let s2 = calls::update(s1, b"a");
@@ -73,6 +79,35 @@ pub(crate) fn limit(hash_number: u32) {
     let s3 = calls::update(s2, b"a");
     let s4 = calls::update(s3, b"");
     calls::end(s4);
+    onto_limit(made::hash_of(hash_number));
+}
+
+// Several blocks that end at the limit, and one byte past it: after bytes that wait, then where a block ends.
+fn onto_limit(hash: Hash) {
+    of_pattern(made::own(hash, algorithm::MOST_BYTES - 385), 385);
+    of_pattern(made::own(hash, algorithm::MOST_BYTES - 384), 385);
+    of_pattern(made::own(hash, algorithm::MOST_BYTES - 383), 383);
+    of_pattern(made::own(hash, algorithm::MOST_BYTES - 383), 384);
+}
+
+// A piece of so many bytes of the pattern.
+fn of_pattern(state: State, size: usize) {
+    let bytes = messages::pattern();
+    if size <= messages::PATTERN {
+        calls::piece(state, &bytes[0..size]);
+    }
+}
+
+// One byte, and several blocks, after each large count.
+pub(crate) fn large_counts(hash_number: u32) {
+    for i in 0..5 {
+        large_count(made::own(made::hash_of(hash_number), made::LARGE_COUNTS[i]));
+    }
+}
+
+fn large_count(state: State) {
+    calls::piece(state, b"a");
+    of_pattern(state, messages::PATTERN);
 }
 
 const SIZES: [usize; 7] = [0, 31, 32, 33, 63, 64, 65];

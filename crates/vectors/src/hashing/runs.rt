@@ -2,9 +2,7 @@
 use crate::hashing::calls;
 use crate::hashing::messages;
 use crate::made;
-use crate::say;
 use algorithm::Hash;
-use hash::State;
 
 // The count of a state, the whole blocks that its waiting bytes make with a piece, and the bytes left over. The first two pieces fill no
 // block, so that no run is handed over; the first is an empty one where nothing waits. Of the two runs that any other hands over, the
@@ -53,17 +51,10 @@ fn taken(hash_number: u32, count: usize, from: usize, end: usize) {
     let bytes = messages::pattern();
     if end <= messages::PATTERN {
         if from <= end {
-            piece(
+            calls::piece(
                 made::own(made::hash_of(hash_number), count as u64),
                 &bytes[from..end],
             );
         }
     }
-}
-
-fn piece(state: State, bytes: &[u8]) {
-    say::state(state);
-    let next = calls::update(state, bytes);
-    say::state(next);
-    calls::end(next);
 }

@@ -1,4 +1,5 @@
-// The edges that docs/PROTOCOL.md draws for HMAC: starts, keys, sound and unsound keyed states, the limit of bytes.
+// The edges that docs/PROTOCOL.md draws for HMAC: starts, keys, sound and unsound keyed states, the limit of bytes; and large
+// counts.
 use crate::made;
 use crate::say;
 use crate::tagging::calls;
@@ -118,7 +119,7 @@ fn under(hash_number: u32, key: &[u8]) {
 
 // Keyed states that differ from zeros in the count, in one waiting byte (none at place 128), in the last word and in the last outer
 // word.
-const STATES: [[u64; 4]; 24] = [
+const STATES: [[u64; 4]; 27] = [
     [0, 128, 0, 0],
     [63, 128, 0, 0],
     [64, 128, 0, 0],
@@ -142,12 +143,15 @@ const STATES: [[u64; 4]; 24] = [
     [128, 128, 0, 18446744073709551615],
     [4294967295, 128, 0, 0],
     [4294967296, 128, 0, 0],
+    [algorithm::MOST_BYTES - 1, 128, 0, 0],
+    [algorithm::MOST_BYTES, 128, 0, 0],
+    [algorithm::MOST_BYTES + 1, 128, 0, 0],
     [18446744073709551615, 128, 0, 0],
 ];
 
 pub(crate) fn states(hash_number: u32) {
     let hash = made::hash_of(hash_number);
-    for i in 0..24 {
+    for i in 0..27 {
         state(hash, STATES[i]);
     }
 }
@@ -160,7 +164,16 @@ fn state(hash: Hash, row: [u64; 4]) {
     going_on(keyed, size);
 }
 
-// States that no call made, sound where their tag length is in range, under outer words of their own, 9 to 16.
+// A keyed state that no call made, with outer words of its own, 9 to 16.
+fn own(hash: Hash, count: u64, tag_length: usize) -> Keyed {
+    made::keyed(
+        made::own(hash, count),
+        tag_length,
+        [9, 10, 11, 12, 13, 14, 15, 16],
+    )
+}
+
+// Such states with each tag length, sound where it is in range.
 pub(crate) fn state_lengths(hash_number: u32) {
     let hash = made::hash_of(hash_number);
     for i in 0..13 {
@@ -169,19 +182,16 @@ pub(crate) fn state_lengths(hash_number: u32) {
 }
 
 fn state_length(hash: Hash, tag_length: usize) {
-    let inner = made::own(hash, 200);
-    let keyed = made::keyed(inner, tag_length, [9, 10, 11, 12, 13, 14, 15, 16]);
+    let keyed = own(hash, 200, tag_length);
     say::keyed(keyed);
     going_on(keyed, room_for(tag_length));
 }
 
-// One byte before the most that may be hashed, under outer words of its own, 9 to 16. With a tag length that is out of range, the
-// state is refused before the bytes are.
+// One byte before the most that may be hashed. With a tag length that is out of range, the state is refused before the bytes are.
 pub(crate) fn limit(hash_number: u32) {
     let hash = made::hash_of(hash_number);
     let size = algorithm::digest_size(hash);
-    let inner = made::own(hash, 4294967294);
-    let k0 = made::keyed(inner, size, [9, 10, 11, 12, 13, 14, 15, 16]);
+    let k0 = own(hash, algorithm::MOST_BYTES - 1, size);
     say::keyed(k0);
     let k1 = calls::update(k0, b"ab");
     let k2 = calls::update(k1, b"a");
@@ -194,4 +204,42 @@ pub(crate) fn limit(hash_number: u32) {
     say::keyed(k5);
     let k6 = calls::update(k5, b"a");
     calls::tags(k6, size);
+    onto_limit(hash, size);
+}
+
+// Several blocks that end at the limit, and one byte past it: after bytes that wait, then where a block ends.
+fn onto_limit(hash: Hash, size: usize) {
+    of_pattern(own(hash, algorithm::MOST_BYTES - 300, size), 300);
+    of_pattern(own(hash, algorithm::MOST_BYTES - 299, size), 300);
+    of_pattern(own(hash, algorithm::MOST_BYTES - 255, size), 255);
+    of_pattern(own(hash, algorithm::MOST_BYTES - 255, size), 256);
+}
+
+// A piece of so many bytes of the pattern.
+fn of_pattern(keyed: Keyed, size: usize) {
+    let bytes = inputs::pattern();
+    if size <= 300 {
+        piece(keyed, &bytes[0..size]);
+    }
+}
+
+// One byte, and several blocks, after each large count.
+pub(crate) fn large_counts(hash_number: u32) {
+    let hash = made::hash_of(hash_number);
+    for i in 0..5 {
+        large_count(own(hash, made::LARGE_COUNTS[i], algorithm::digest_size(hash)));
+    }
+}
+
+fn large_count(keyed: Keyed) {
+    piece(keyed, b"a");
+    of_pattern(keyed, 300);
+}
+
+// A piece between the keyed states before and after it, and the tags that it leads to.
+fn piece(keyed: Keyed, bytes: &[u8]) {
+    say::keyed(keyed);
+    let next = calls::update(keyed, bytes);
+    say::keyed(next);
+    calls::tags(next, keyed.tag_length);
 }

@@ -3,6 +3,8 @@ use mathlib.Core.Path.{sym, ap, _∙_}
 use native.Mathlib.Omega.{arith}
 use borrow.Author.Needs.{needs}
 use denote.Ref.{now}
+use Rattle.algorithm.specs.Hashes.{hashOf}
+use Rattle.algorithm.specs.Hashes.Laws.{digest-most}
 use Rattle.algorithm.specs.Refusals.{done}
 use Rattle.algorithm.specs.Checks.{written}
 use Rattle.hkdf.specs.Calls.Laws.{expand-prk-too-long, expand-prk-too-short, expand-info-too-long, expand-output-too-long, expand-accepted}
@@ -39,6 +41,14 @@ returns-3 c =
     let size = start .pre .1 in
     sym (expand-info-too-long n prk info out (start .pre .0) (omega arith) (omega arith) (omega arith))
 
+-- a digest has at most 64 bytes, so 255 of them are counted without wrapping
+mul-if4 : tie.Need-mul-if4
+mul-if4 c =
+    let start = c .before .before .before .before .before .before in
+    let size = start .pre .1 in
+    let most = digest-most (hashOf (start .args .hash-number)) in
+    search needs
+
 returns-4 : tie.Need-returns-4
 returns-4 c =
     let start = c .before .before .before .before .before .before .before in
@@ -69,4 +79,4 @@ returns-5 c =
 pub expand-for-spec : {M : Type 1} → statement M
 expand-for-spec =
     tie.close
-    (tie.spec returns returns-2 returns-3 (λ c. search needs) returns-4 fill-requires (λ c. search needs) returns-5)
+    (tie.spec returns returns-2 returns-3 mul-if4 returns-4 fill-requires (λ c. search needs) returns-5)

@@ -5,10 +5,10 @@ use Rattle.vectors.proofs.hashing.edges.states.Statement.{statement}
 use Rattle.vectors.proofs.hashing.edges.states.Tie as tie
 
 abbrev Inv-loop : tie.InvT-loop
-Inv-loop number hash i₀ i = i ≤ 17
+Inv-loop number hash i₀ i = i ≤ 20
 
 abbrev μ-loop : tie.MeasureT-loop
-μ-loop number hash i₀ i = 17 - i
+μ-loop number hash i₀ i = 20 - i
 
 pub states-spec : {M : Type 1} → statement M
 states-spec =

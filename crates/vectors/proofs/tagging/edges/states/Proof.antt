@@ -5,10 +5,10 @@ use Rattle.vectors.proofs.tagging.edges.states.Statement.{statement}
 use Rattle.vectors.proofs.tagging.edges.states.Tie as tie
 
 abbrev Inv-loop : tie.InvT-loop
-Inv-loop number hash i₀ i = i ≤ 24
+Inv-loop number hash i₀ i = i ≤ 27
 
 abbrev μ-loop : tie.MeasureT-loop
-μ-loop number hash i₀ i = 24 - i
+μ-loop number hash i₀ i = 27 - i
 
 pub states-spec : {M : Type 1} → statement M
 states-spec =
