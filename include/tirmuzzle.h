@@ -51,7 +51,8 @@ enum {
     TIRMUZZLE_NO_SUCH_SITE = 17,              /* no site at that place */
     TIRMUZZLE_BUFFER_TOO_SHORT = 18,          /* a buffer too short for the report to be written */
     TIRMUZZLE_LEDGER_FULL = 19,               /* the ledger has no free record */
-    TIRMUZZLE_TOTAL_TOO_LARGE = 20            /* the live bytes in the ledger would be more than 2^64 - 1 in all */
+    TIRMUZZLE_TOTAL_TOO_LARGE = 20,           /* the live bytes in the ledger would be more than 2^64 - 1 in all */
+    TIRMUZZLE_KEY_TOO_SHORT = 21              /* the tag key or the fingerprint key of a report, under 16 bytes */
 };
 
 /* The hashes, and the bytes of their digests. */
@@ -71,7 +72,8 @@ enum {
     TIRMUZZLE_SHA256_REPORT_TAG = 16,
     TIRMUZZLE_SHA512_REPORT_TAG = 32,
     TIRMUZZLE_FINGERPRINT = 32,
-    TIRMUZZLE_SHA256_REPORT_KEY = 32, /* of a machine's tag key, and of its fingerprint key */
+    TIRMUZZLE_SHORTEST_REPORT_KEY = 16, /* of a tag key or a fingerprint key that a call takes */
+    TIRMUZZLE_SHA256_REPORT_KEY = 32,   /* of a machine's tag key, and of its fingerprint key, as tirmuzzle_report_keys makes them */
     TIRMUZZLE_SHA512_REPORT_KEY = 64,
     TIRMUZZLE_SHA256_REPORT_KEYS = 64, /* of both together, as tirmuzzle_report_keys writes them */
     TIRMUZZLE_SHA512_REPORT_KEYS = 128
@@ -115,7 +117,8 @@ typedef char tirmuzzle_record_has_48_bytes[sizeof(struct tirmuzzle_record) == 48
 
 /* ---- For agents ---- */
 
-/* The first tag_length bytes of the HMAC of a message. out has exactly tag_length bytes.
+/* The first tag_length bytes of the HMAC of a message. The key may have any length up to 2^61 - 1 bytes, also none: 21 is for the keys
+ * of reports alone. out has exactly tag_length bytes.
  * Refuses with 2, 3, 5, 4, 6, in this order: tag_length is checked with the key, before the message. */
 uint32_t tirmuzzle_tag(uint32_t hash, const uint8_t *key, size_t key_length, const uint8_t *message, size_t message_length,
                        size_t tag_length, uint8_t *out, size_t out_length);
@@ -153,7 +156,7 @@ uint32_t tirmuzzle_expand(uint32_t hash, const uint8_t *prk, size_t prk_length, 
  * The tag plays no part in it. What else a call refuses, it refuses only then. */
 
 /* The fingerprint of a report, which its send time, its attempt and its tag do not change, under the fingerprint key as it is lent.
- * out has TIRMUZZLE_FINGERPRINT bytes. Refuses as reading does, then with 3, 6. */
+ * out has TIRMUZZLE_FINGERPRINT bytes. Refuses as reading does, then with 3, 21, 6. */
 uint32_t tirmuzzle_report_fingerprint(const uint8_t *report, size_t report_length, const uint8_t *fingerprint_key,
                                       size_t fingerprint_key_length, uint8_t *out, size_t out_length);
 
@@ -176,6 +179,7 @@ uint32_t tirmuzzle_report_fingerprint(const uint8_t *report, size_t report_lengt
  *     15  labels does not have as many bytes as the lengths add up to
  *     16  the live bytes of all sites add up to more than 2^64 - 1
  *      3  the tag key has more than 2^61 - 1 bytes
+ *     21  the tag key has fewer than 16 bytes
  *     18  out is too short for the report */
 uint32_t tirmuzzle_report_write(uint32_t hash, uint32_t tenant, uint64_t machine, uint64_t report_number, uint64_t send_time,
                                 uint8_t attempt, uint64_t memory, const uint8_t *labels, size_t labels_length,
@@ -194,7 +198,7 @@ uint32_t tirmuzzle_report_keys(uint32_t hash, const uint8_t *prk, size_t prk_len
                                size_t out_length);
 
 /* Whether the tag at the end of a report is that of all bytes before it, under the tag key as it is lent: 0 where it is, 1 where it is
- * not. Refuses as reading does, then with 3; 1 is the last check of all. */
+ * not. Refuses as reading does, then with 3, 21; 1 is the last check of all. */
 uint32_t tirmuzzle_report_check(const uint8_t *report, size_t report_length, const uint8_t *tag_key, size_t tag_key_length);
 
 /* Every field of a report and the sum of its live bytes; fields has TIRMUZZLE_FIELDS places. Refuses as reading does, then with 6. */
@@ -233,8 +237,10 @@ uint32_t tirmuzzle_report_site(const uint8_t *report, size_t report_length, uint
  *     10  the ledger is not sound
  *         the numbers of reading
  *      3  the tag key has more than 2^61 - 1 bytes
+ *     21  the tag key has fewer than 16 bytes
  *      1  the tag differs
  *      3  the fingerprint key has more than 2^61 - 1 bytes
+ *     21  the fingerprint key has fewer than 16 bytes
  *     19  the report is not seen, and no record is free
  *     20  the report is not seen, and the live bytes of the ledger and of the report add up to more than 2^64 - 1 */
 uint32_t tirmuzzle_ledger_submit(struct tirmuzzle_record *records, size_t records_count, const uint8_t *report, size_t report_length,

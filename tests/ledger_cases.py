@@ -10,10 +10,10 @@ import sys
 import ledger_rules as rules
 from ledger_rules import FREE, Record
 from report_cases import (
-    FAULTS, FREE_FIELDS, HALF, KEY, KEY_LENGTHS, LARGEST_64, LAYOUT, QUARTER, WORKED, damaged, drawn_bytes, drawn_fields, drawn_sites,
-    faulty, made, pattern, site, with_byte,
+    FAULTS, FREE_FIELDS, HALF, KEY, KEY_LENGTHS, LARGEST_64, LAYOUT, QUARTER, SHORT_KEY_LENGTHS, WORKED, damaged, drawn_bytes,
+    drawn_fields, drawn_sites, faulty, made, pattern, site, with_byte,
 )
-from report_rules import HASHES, TAG_BYTES, full_tag
+from report_rules import HASHES, TAG_BYTES, fingerprint_message, full_tag
 
 # The tag key and the fingerprint key, unless a case says otherwise.
 KEYS = KEY, bytes(range(33, 65))
@@ -24,7 +24,7 @@ Submission = collections.namedtuple("Submission", "ledger report tag_key fingerp
 Total = collections.namedtuple("Total", "ledger number total")
 
 # What a submission answers: its number, and 1 where the report is seen.
-NEW, SEEN, UNSOUND, DIFFERS, FULL, OVER = (0, 0), (0, 1), (10, 0), (1, 0), (19, 0), (20, 0)
+NEW, SEEN, UNSOUND, DIFFERS, FULL, OVER, SHORT = (0, 0), (0, 1), (10, 0), (1, 0), (19, 0), (20, 0), (21, 0)
 
 
 def hold(holds, what):
@@ -68,6 +68,11 @@ def record_of(report):
     number, record = rules.judged(report, *KEYS)
     hold(number == 0, f"a report that should count is refused with {number}")
     return record
+
+
+def would_be(report, fingerprint_key):
+    """The record of a report under a fingerprint key, which may be too short."""
+    return record_of(report)._replace(fingerprint=full_tag(report[5], fingerprint_key, fingerprint_message(report))[:32])
 
 
 def holding(source, live):
@@ -133,7 +138,7 @@ def other_reports(hash, source):
 
 
 def key_lengths(hash, source):
-    """Keys of many lengths, the empty ones too. Under another tag key the tag differs, and under another fingerprint key a report that
+    """Keys of many lengths, the shortest too. Under another tag key the tag differs, and under another fingerprint key a report that
     was counted is new."""
     for tag_key, fingerprint_key in itertools.product(map(pattern, KEY_LENGTHS), repeat=2):
         report, own = made(hash=hash, key=tag_key), (tag_key, fingerprint_key)
@@ -143,6 +148,22 @@ def key_lengths(hash, source):
         yield submitted(first.after, report, DIFFERS, (tag_key + b"\1", fingerprint_key))
         yield submitted(first.after, report, NEW, (tag_key, fingerprint_key + b"\1"))
     yield submitted([FREE], made(hash=hash), DIFFERS, KEYS[::-1])
+
+
+def short_keys(hash, source):
+    """A tag key or a fingerprint key that is too short, or both, where the tag is right and where it is not; then keys of 16 bytes with
+    the same block form, under which the report is new."""
+    good = KEYS[1]
+    for short in map(pattern, SHORT_KEY_LENGTHS):
+        under, long_enough = made(hash=hash, key=short), short.ljust(16, b"\0")
+        for ledger in ([FREE, FREE], [], holding(source, [5]), holding(source, [LARGEST_64]) + [FREE]):
+            yield submitted(ledger, under, SHORT, (short, good))
+            yield submitted(ledger, under, SHORT, (short, short))
+            yield submitted(ledger, made(hash=hash), SHORT, (KEY, short))
+        yield submitted([FREE], made(hash=hash), SHORT, (short, good))
+        yield submitted([FREE], made(hash=hash), DIFFERS, (KEY[::-1], short))
+        yield submitted([would_be(made(hash=hash), short), FREE], made(hash=hash), SHORT, (KEY, short))
+        yield submitted([FREE], under, NEW, (long_enough, long_enough))
 
 
 # Live bytes of used records and of a report, and whether that is entered or the sum would be too large.
@@ -267,13 +288,16 @@ def changed_ledgers(hash, source):
 
 
 # What a submission can meet, in the order of the checks that find it, with the answers; reading has a number for each fault.
-MEETINGS = dict(unsound=UNSOUND, reading=None, tag=DIFFERS, seen=SEEN, full=FULL, over=OVER)
+MEETINGS = dict(
+    unsound=UNSOUND, reading=None, tag_key=SHORT, tag=DIFFERS, fingerprint_key=SHORT, seen=SEEN, full=FULL, over=OVER,
+)
 
 
 def meeting(source, hash, met, fault):
     """A submission that meets all of this at once, with this fault of reading where reading is among it."""
-    good = made(hash=hash)
-    own = record_of(good)
+    tag_key, fingerprint_key = KEYS[0][: 15 if "tag_key" in met else None], KEYS[1][: 15 if "fingerprint_key" in met else None]
+    good = made(hash=hash, key=tag_key)
+    own = would_be(made(hash=hash), fingerprint_key)
     used = drawn_used(source, 2) + [own] * ("seen" in met)
     if "over" in met:
         missing = LARGEST_64 - rules.sum_of(used) - own.live
@@ -282,12 +306,12 @@ def meeting(source, hash, met, fault):
     ledger = used + [FREE] * (0 if "full" in met else source.randint(1, 3))
     if "unsound" in met:
         ledger = source.choice(([used[0]], [used[0]._replace(in_use=2)], holding(source, [LARGEST_64, 1]))) + ledger
-    report = tagged(hash, faulty(hash, {fault})[: -TAG_BYTES[hash]]) if "reading" in met else good
+    report = tagged(hash, faulty(hash, {fault})[: -TAG_BYTES[hash]], tag_key) if "reading" in met else good
     if "tag" in met:
         report = with_byte(report, len(report) - source.randint(1, TAG_BYTES[hash]), 1 << source.randrange(8))
     first = next((name for name in MEETINGS if name in met), None)
     made_for = NEW if first is None else (FAULTS[fault], 0) if first == "reading" else MEETINGS[first]
-    return submitted(ledger, report, made_for)
+    return submitted(ledger, report, made_for, (tag_key, fingerprint_key))
 
 
 def orders(hash, source):
@@ -315,10 +339,11 @@ def drawn_submission(source, hashes, machines):
 
 
 def altered(source, machines, report, keys):
-    """The same submission damaged, with a key that may be another machine's, or as it was."""
+    """The same submission damaged, with a key that may be another machine's, with a key that is too short, or as it was."""
     others = source.choice(machines)
     return source.choice((
-        (damaged(report, source), keys), (report, (others[0], keys[1])), (report, (keys[0], others[1])), (report, keys),
+        (damaged(report, source), keys), (report, (others[0], keys[1])), (report, (keys[0], others[1])),
+        (report, (keys[0][:15], keys[1])), (report, (keys[0], keys[1][:15])), (report, keys),
     ))
 
 
@@ -357,6 +382,6 @@ def storms(source):
 def cases(source):
     """Every submission and every total. The same draws give the same cases."""
     for hash in HASHES:
-        for part in (sizes, other_fingerprints, other_reports, key_lengths, sums, lent_ledgers, changed_ledgers, orders):
+        for part in (sizes, other_fingerprints, other_reports, key_lengths, short_keys, sums, lent_ledgers, changed_ledgers, orders):
             yield from part(hash, source)
     yield from storms(source)

@@ -22,7 +22,8 @@ MIXED = dict(
 LARGEST_64, LARGEST_32 = 2**64 - 1, 2**32 - 1
 
 KEY = bytes(range(1, 33))
-KEY_LENGTHS = (0, 1, 63, 64, 65, 127, 128, 129, 300)
+KEY_LENGTHS = (16, 17, 63, 64, 65, 127, 128, 129, 300)
+SHORT_KEY_LENGTHS = (0, 1, 8, 14, 15)
 
 
 def hold(holds, what):
@@ -261,9 +262,10 @@ def orders(hash):
     for fault, number in FAULTS.items():
         report = faulty(hash, [fault])
         yield reading(report, number)
-        yield checking(report, KEY, number)
-        yield fingerprinting(report, KEY, 32, number)
-        yield fingerprinting(report, KEY, 31, number)
+        for key in (KEY, KEY[:15]):
+            yield checking(report, key, number)
+            yield fingerprinting(report, key, 32, number)
+            yield fingerprinting(report, key, 31, number)
 
 
 def tags(hash):
@@ -287,6 +289,13 @@ def tags(hash):
         yield checking(before + tag, KEY, 1)
     for sites in ((), [site(pattern(48))] * 3):
         yield checking(made(sites, hash=hash), KEY, 0)
+    # A key that is too short is refused whether the tag is right under it or not. With zeros after it the key is long enough, and the
+    # tag is the same.
+    for key in map(pattern, SHORT_KEY_LENGTHS):
+        right = made(hash=hash, key=key)
+        yield checking(right, key, 21)
+        yield checking(with_byte(right, len(right) - 1, 1), key, 21)
+        yield checking(right, key.ljust(16, b"\0"), 0)
 
 
 def shifted(hash):
@@ -301,6 +310,9 @@ def fingerprints(hash):
         yield fingerprinting(worked, KEY, size, 6)
     for key in map(pattern, KEY_LENGTHS):
         yield fingerprinting(worked, key, 32, 0)
+    for key in map(pattern, SHORT_KEY_LENGTHS):
+        for size in (32, 31, 33, 0):
+            yield fingerprinting(worked, key, size, 21)
     # The send time, the attempt and the tag change nothing; the bytes just before and just after the first two do.
     resent = [made(hash=hash, send_time=LARGEST_64), *(made(hash=hash, send_time=61000, attempt=attempt) for attempt in (0, 1, 255))]
     same = [worked, *resent, made(hash=hash, tag=bytes(TAG_BYTES[hash])), *(with_byte(worked, at, 1) for at in (26, 33, 34))]

@@ -9,6 +9,7 @@ DIGEST_BYTES = {1: 32, 2: 64}
 BLOCK_BYTES = {1: 64, 2: 128}
 TAG_BYTES = {1: 16, 2: 32}
 MOST_KEY_BYTES = 2**61 - 1
+FEWEST_KEY_BYTES = 16  # of a report's key; a PRK has a rule of its own
 MOST_LIVE_BYTES = 2**64 - 1
 
 # Where each field stands and how many bytes it has: count, version, hash, tenant, machine, report number, send time, attempt,
@@ -88,12 +89,17 @@ def full_tag(number, key, message):
     return hmac.new(key, message, HASHES[number]).digest()
 
 
+def refusal_of_key(key):
+    """The number of the first check that a report's key fails, or 0."""
+    if len(key) > MOST_KEY_BYTES:
+        return 3
+    return 21 if len(key) < FEWEST_KEY_BYTES else 0
+
+
 def check(report, tag_key):
-    number, _ = opened(report)
+    number = opened(report)[0] or refusal_of_key(tag_key)
     if number:
         return number
-    if len(tag_key) > MOST_KEY_BYTES:
-        return 3
     presented = report[tag_start(report) :]
     return int(full_tag(report[5], tag_key, report[: tag_start(report)])[: len(presented)] != presented)
 
@@ -132,11 +138,9 @@ def write(heading, labels, lengths, live, blocks, tag_key, size):
     untouched = bytes([UNTOUCHED]) * size
     if heading[0] not in HASHES:
         return 2, 0, untouched
-    number = refusal_of_columns(labels, lengths, live, blocks)
+    number = refusal_of_columns(labels, lengths, live, blocks) or refusal_of_key(tag_key)
     if number:
         return number, 0, untouched
-    if len(tag_key) > MOST_KEY_BYTES:
-        return 3, 0, untouched
     report = report_of(heading, labels, lengths, live, blocks, tag_key)
     if len(report) > size:
         return 18, 0, untouched
@@ -151,11 +155,9 @@ def fingerprint_message(report):
 def fingerprint(report, fingerprint_key, size):
     """The number, and what an output of this size then holds."""
     untouched = bytes([UNTOUCHED]) * size
-    number, _ = opened(report)
+    number = opened(report)[0] or refusal_of_key(fingerprint_key)
     if number:
         return number, untouched
-    if len(fingerprint_key) > MOST_KEY_BYTES:
-        return 3, untouched
     if size != 32:
         return 6, untouched
     return 0, full_tag(report[5], fingerprint_key, fingerprint_message(report))[:32]

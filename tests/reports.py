@@ -15,6 +15,8 @@ of bytes after its length in four,
        lengths of labels in 4 each, live bytes in 8 each and live blocks in 4 each, each list after how many there are in 4; tag key,
        size of the output in 4; answered by write, and where the report is written by check, by read, and by write once more from
        what read, site and label answer of it
+    6  report, tag key, fingerprint key; answered by submit to a ledger of one free record, and then once more to the ledger after it,
+       each with the number, 1 where the report is seen, and the record: 1 where it is used, its live bytes and its fingerprint
 
 An output holds bytes a5 beforehand, and is written as it is after the call. Before it writes or compares anything the program holds
 the rules to the worked values, to RFC 5869 and to the numbers that the cases were made for."""
@@ -26,6 +28,7 @@ import sys
 sys.dont_write_bytecode = True  # tests/ holds sources only
 import report_cases
 import report_rules as rules
+import submit_cases
 import write_cases
 from report_cases import KEY, hold, made
 
@@ -44,11 +47,11 @@ RFC_PRK = "077709362c2e32df0ddc3f0dc47bba6390b6c73bb50f9c3122ec844ad7c2b3e5"
 RFC_INFO = "f0f1f2f3f4f5f6f7f8f9"
 RFC_KEY = "3cb25f25faacd57a90434f64d0362f2a2d2d0a90cf1a5a4c5db02d56ecc4c5bf"
 
-# The numbers that each call must reach, at least twice. 3 would take a key of 2^61 bytes.
+# The numbers that each call must reach, at least twice. 3 would take a key of 2^61 bytes, and 10, 19 and 20 another ledger.
 READ_NUMBERS = (0, 2, 11, 12, 13, 14, 15, 16)
 NUMBERS = dict(
-    read=READ_NUMBERS, site=READ_NUMBERS + (17,), check=READ_NUMBERS + (1,), fingerprint=READ_NUMBERS + (6,), keys=(0, 2, 6, 7),
-    write=(0, 2, 6, 13, 14, 15, 16, 18),
+    read=READ_NUMBERS, site=READ_NUMBERS + (17,), check=READ_NUMBERS + (1, 21), fingerprint=READ_NUMBERS + (6, 21), keys=(0, 2, 6, 7),
+    write=(0, 2, 6, 13, 14, 15, 16, 18, 21), submit=READ_NUMBERS + (1, 21),
 )
 
 
@@ -91,7 +94,7 @@ def main(arguments):
     if arguments not in ([], ["--check"]):
         sys.exit(__doc__)
     hold_to_document()
-    cases = [*report_cases.cases(), *write_cases.cases()]
+    cases = [*report_cases.cases(), *write_cases.cases(), *submit_cases.cases()]
     lines = [line for _, answers in cases for line in answers]
     hold_to_numbers(lines)
     files = {CASES: b"".join(record for record, _ in cases), EXPECTED: "".join(line + "\n" for line in lines).encode()}

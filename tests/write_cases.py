@@ -8,8 +8,8 @@ import random
 
 import report_rules as rules
 from report_cases import (
-    FREE_FIELDS, KEY, KEY_LENGTHS, LARGEST_32, LARGEST_64, LAYOUT, MIXED, MOST_KEY_BYTES, MOST_REPORT_BYTES, SUMS, WORKED, agrees,
-    big, drawn_bytes, drawn_fields, drawn_sites, filled, hold, made, pattern, prefixed, read_line, shown, site,
+    FREE_FIELDS, KEY, KEY_LENGTHS, LARGEST_32, LARGEST_64, LAYOUT, MIXED, MOST_KEY_BYTES, MOST_REPORT_BYTES, SHORT_KEY_LENGTHS, SUMS,
+    WORKED, agrees, big, drawn_bytes, drawn_fields, drawn_sites, filled, hold, made, pattern, prefixed, read_line, shown, site,
 )
 from report_rules import HASHES, TAG_BYTES
 
@@ -154,6 +154,14 @@ def unequal_columns(hash):
         yield writing([SHORT_SITE] * 64, 6, hash=hash, **resized(columns([SHORT_SITE] * 64), {name: 1}))
 
 
+def short_keys(hash):
+    for key in map(pattern, SHORT_KEY_LENGTHS):
+        yield writing(made_for=21, hash=hash, key=key)
+        yield writing((), 21, hash=hash, key=key)
+        yield writing(made_for=21, hash=hash, key=key, longer=-1)
+        yield writing([(b"s", LARGEST_64, 1), (b"s", 1, 1)], 16, hash=hash, key=key)
+
+
 def output_sizes(hash):
     for sites in ((), [WORKED_SITE], [(pattern(48), 5, 6), SHORT_SITE, WORKED_SITE]):
         for longer in (0, 1, 100):
@@ -164,8 +172,8 @@ def output_sizes(hash):
             yield writing(sites, 18, size=size, hash=hash)
 
 
-# Faults in the order of the checks that find them, with their numbers. 3, before the last, would take a key of 2^61 bytes.
-FAULTS = dict(hash=2, column=6, sites=13, label=14, bytes=15, sum=16, size=18)
+# Faults in the order of the checks that find them, with their numbers. 3, just before 21, would take a key of 2^61 bytes.
+FAULTS = dict(hash=2, column=6, sites=13, label=14, bytes=15, sum=16, key=21, size=18)
 
 
 def faulty(hash, faults):
@@ -175,6 +183,7 @@ def faulty(hash, faults):
     own = columns(sites)
     return writing(
         sites, FAULTS[faults[0]], size=60 if "size" in faults else None, hash=3 if "hash" in faults else hash,
+        key=KEY[:15] if "key" in faults else KEY,
         labels=own["labels"] + b"a" * ("bytes" in faults), blocks=own["blocks"][int("column" in faults) :],
     )
 
@@ -207,7 +216,7 @@ def drawn():
     for _ in range(100):
         sites, fields = drawn_sites(source), drawn_fields(source)
         changed = {**fields, "hash": source.choice((1, 2)), **damaged(columns(sites), source)}
-        key = drawn_bytes(source, source.randrange(160))
+        key = drawn_bytes(source, source.randrange(16, 160))
         yield writing(sites, longer=source.choice((0, 0, 0, -1, 1, 30)), key=key, **changed)
 
 
@@ -215,7 +224,7 @@ def cases():
     """Every case, as its record and its lines."""
     for hash in HASHES:
         for part in (
-            good_reports, largest, numbers_of_sites, label_lengths, label_bytes, sums, unequal_columns, output_sizes, orders,
+            good_reports, largest, numbers_of_sites, label_lengths, label_bytes, sums, unequal_columns, short_keys, output_sizes, orders,
         ):
             yield from part(hash)
     yield from hashes()

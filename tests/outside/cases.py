@@ -48,9 +48,9 @@ CALLS = (
 READING = (0, 2, 11, 12, 13, 14, 15, 16)
 NUMBERS = dict(
     digest=(0, 2, 6), tag=(0, 2, 5, 6), verify=(0, 1, 2, 5, 6), extract=(0, 2, 6), expand=(0, 2, 7, 8, 9),
-    report_fingerprint=READING + (6,), report_keys=(0, 2, 6, 7), report_check=READING + (1,), report_read=READING + (6,),
-    report_site=READING + (17, 6), report_write=(0, 2, 6, 13, 14, 15, 16, 18),
-    ledger_submit=READING + (1, 10, 19, 20), ledger_total=(0, 10),
+    report_fingerprint=READING + (6, 21), report_keys=(0, 2, 6, 7), report_check=READING + (1, 21), report_read=READING + (6,),
+    report_site=READING + (17, 6), report_write=(0, 2, 6, 13, 14, 15, 16, 18, 21),
+    ledger_submit=READING + (1, 10, 19, 20, 21), ledger_total=(0, 10),
 )
 # How many buffers each call takes, inputs, ledger and output together.
 BUFFERS = dict(
@@ -144,7 +144,7 @@ def site_at(report, place, places=4):
     return case("report_site", answers.report_site(report, place, places), [place], [report], places, 8)
 
 
-def write(heading, columns, key=b"key", size=MOST_REPORT_BYTES, made_for=None):
+def write(heading, columns, key=KEY, size=MOST_REPORT_BYTES, made_for=None):
     """The case of writing a report; where it was made for a number, the rules are held to that."""
     answer, written, length = answers.report_write(heading, *columns, key, size)
     hold(made_for in (None, answer), f"a report to be written, made for {made_for}, answers {answer}")
@@ -154,14 +154,16 @@ def write(heading, columns, key=b"key", size=MOST_REPORT_BYTES, made_for=None):
 
 
 def write_again(report, key, size=None):
-    """The case of writing what a report with a right tag reads as, which gives the report itself."""
+    """The case of writing what a report with a right tag reads as, which gives the report itself unless the key or the output is too
+    short."""
     _, fields = report_rules.read(report)
     places = range(fields[9])
     numbers = [report_rules.site(report, place)[1] for place in places]
     labels = b"".join(report_rules.label(report, place)[1] for place in places)
     columns = Columns(labels, *([each[i] for each in numbers] for i in (1, 2, 3)))
     again = write(fields[2:9], columns, key, len(report) if size is None else size)
-    hold(again.answer == 18 or again.outputs[0].given == report, "a report read and written again is another")
+    hold((again.answer == 21) == (len(key) < 16), "a key that is too short is taken, or another one is not")
+    hold(again.answer in (18, 21) or again.outputs[0].given == report, "a report read and written again is another")
     return again
 
 
@@ -379,12 +381,13 @@ def good_reports(source):
         for place in range(66):
             yield site_at(largest, place)
         for report in (smallest, largest):
-            yield from asked(source, report, b"key")
+            yield from asked(source, report, KEY)
             yield write_again(report, KEY)
 
 
 def report_keys_of_every_length(source):
-    """Tags and fingerprints under keys of every length, the empty one too, and the same with a bit of the tag or key changed."""
+    """Tags and fingerprints under keys of every length, also those that are too short; and the same with a bit of the tag changed, or
+    with a zero after the key."""
     for hash in HASHES:
         sites = drawn_sites(source, 2, 8)
         for length in LENGTHS:
@@ -398,6 +401,25 @@ def report_keys_of_every_length(source):
         for at in range(tag_start, len(report)):
             for bit in range(8):
                 yield check(with_byte(report, at, 1 << bit), key)
+
+
+def short_report_keys(source):
+    """Keys on both sides of the shortest, where that is all that is refused, and beside what is refused before it and after it."""
+    for hash in HASHES:
+        columns = drawn_columns(source, [5, 6])
+        whole, over = written_length(hash, columns.lengths), columns._replace(live=[2**64 - 1, 1])
+        for length in range(18):
+            key = source.randbytes(length)
+            report = drawn_report(source, hash, drawn_sites(source, 1), key)
+            yield check(with_byte(report, len(report) - 1, 1), key)
+            yield check(report[:-1], key)
+            for size in (0, 31, 32, 33):
+                yield fingerprint(report, key, size)
+                yield fingerprint(report[:-1], key, size)
+            refused = 21 if length < 16 else None
+            for size, number in ((whole, refused or 0), (whole - 1, refused or 18), (0, refused or 18)):
+                yield write(heading(hash=hash), columns, key, size, number)
+                yield write(heading(hash=hash), over, key, size, 16)
 
 
 def damaged_reports(source):
@@ -424,14 +446,15 @@ def two_damages(source):
     for hash in HASHES:
         for one in FAULTS:
             for other in FAULTS:
-                yield from asked(source, faulty(hash, {one, other}), b"key")
-            # A fault comes before a buffer of the wrong size and a place that is not there.
+                yield from asked(source, faulty(hash, {one, other}), KEY)
+            # A fault comes before a buffer of the wrong size, a place that is not there and a key that is too short.
             report = faulty(hash, {one})
             yield from (read(report, places) for places in (0, 10, 12))
             yield from (site_at(report, place, places) for place in (0, 2, 2**64 - 1) for places in (0, 3, 5))
-            yield from (fingerprint(report, b"key", size) for size in (0, 31, 33))
+            yield from (fingerprint(report, key, size) for key in (KEY, KEY[:15]) for size in (0, 31, 32, 33))
+            yield check(report, KEY[:15])
         for _ in range(400):
-            report = drawn_report(source, hash, drawn_sites(source, source.randrange(4), 4), b"key")
+            report = drawn_report(source, hash, drawn_sites(source, source.randrange(4), 4), KEY)
             for _ in range(2):
                 kind = source.randrange(4)
                 if kind == 0:
@@ -441,24 +464,24 @@ def two_damages(source):
                 else:
                     at = source.choice((4, 5, 43, 44, 45, 46, 60, source.randrange(len(report)), source.randrange(len(report))))
                     report = with_byte(report, min(at, len(report) - 1), source.choice((1, 2, 3, 64, source.randrange(1, 256))))
-            yield from asked(source, report, b"key")
+            yield from asked(source, report, KEY)
 
 
 def noise(source):
     """Bytes that are no report, and such with a right count, version and hash, so that more of them is looked at."""
     for length in (*range(0, 130), 200, 1000, 3980, 3981, 3982, 4096, 70000):
         content = source.randbytes(length)
-        yield from asked(source, content, b"key")
+        yield from asked(source, content, KEY)
         if length >= 4:
-            yield from asked(source, counted(content), b"key")
+            yield from asked(source, counted(content), KEY)
         if length >= 61:
             sites = big(source.choice((0, 1, 2, 3, 64, 65)), 2)
             for hash in HASHES:
-                yield from asked(source, counted(content[:4] + bytes([1, hash]) + content[6:43] + sites + content[45:]), b"key")
+                yield from asked(source, counted(content[:4] + bytes([1, hash]) + content[6:43] + sites + content[45:]), KEY)
     for length in (61, 76, 77, 78):
         for hash in (0, 1, 2, 3):
             for version in (0, 1, 2):
-                yield from asked(source, of_length(length, hash=hash, version=version), b"key")
+                yield from asked(source, of_length(length, hash=hash, version=version), KEY)
 
 
 def sums(source):
@@ -468,7 +491,7 @@ def sums(source):
     too_large = [[1, most], [half, half], [most] * 2, [most] * 64, [2**58] * 64, [half, half, most]]
     for hash in HASHES:
         for live in fitting + [live + [1] for live in fitting] + [[2**58] * 63 + [2**58 - 1]] + too_large:
-            yield from asked(source, made([site(b"s", size) for size in live], hash=hash), b"key")
+            yield from asked(source, made([site(b"s", size) for size in live], hash=hash), KEY)
             yield write(heading(hash=hash), Columns(b"s" * len(live), [1] * len(live), live, [2] * len(live)))
 
 
@@ -545,7 +568,7 @@ def written_labels(source):
 
 
 # What can be wrong with a report to be written, in the order of the checks that find it, with the numbers.
-WRITING_FAULTS = dict(hash=2, unequal=6, many=13, length=14, labels=15, sum=16, short=18)
+WRITING_FAULTS = dict(hash=2, unequal=6, many=13, length=14, labels=15, sum=16, key=21, short=18)
 
 
 def faulty_write(source, hash, faults):
@@ -563,8 +586,9 @@ def faulty_write(source, hash, faults):
     size = written_length(hash, lengths)
     if "short" in faults:
         size -= source.choice((1, TAG_BYTES[hash], size))
+    key = KEY[: source.choice((0, 1, 15))] if "key" in faults else KEY
     number = next((number for fault, number in WRITING_FAULTS.items() if fault in faults), 0)
-    return write(heading(hash=hash + 2 if "hash" in faults else hash), columns, KEY, size, number)
+    return write(heading(hash=hash + 2 if "hash" in faults else hash), columns, key, size, number)
 
 
 def two_faults_of_writing(source):
@@ -581,7 +605,7 @@ def drawn_writes(source):
     for _ in range(400):
         fields = {name: source.getrandbits(source.randrange(1, 8 * LAYOUT[name] + 1)) for name in FREE_FIELDS}
         lengths = [source.choice((1, 2, 48, source.randint(1, 48))) for _ in range(source.randrange(9))]
-        key = source.randbytes(source.randrange(200))
+        key = source.randbytes(source.randrange(16, 200))
         yield write(heading(hash=source.choice((1, 2)), **fields), drawn_columns(source, lengths), key, source.randrange(900))
 
 
@@ -608,7 +632,7 @@ def ledgers(source):
 
 def all_cases(source):
     for part in (
-        digests, tags, verifications, extractions, expansions, key_pairs, good_reports, report_keys_of_every_length,
+        digests, tags, verifications, extractions, expansions, key_pairs, good_reports, report_keys_of_every_length, short_report_keys,
         damaged_reports, two_damages, noise, sums, written_fields, written_buffers, unequal_columns, written_label_lengths,
         written_labels, two_faults_of_writing, drawn_writes, retries, ledgers,
     ):

@@ -1,5 +1,6 @@
-/* Calls the library on both sides of the limits near 2^61 - 1 bytes, and with reports and labels that are 4 GiB or 2^61 bytes longer
- * than they say themselves. Every call is refused, and a key, message or key material that is too long, or the longest, is not read.
+/* Calls the library on both sides of the limits near 2^61 - 1 bytes, with reports and labels that are 4 GiB or 2^61 bytes longer than
+ * they say themselves, and with keys of reports on both sides of the shortest. Every call is refused. What is too long or too short is
+ * not read, and neither is the longest or the shortest key where something else is refused.
  *
  * No machine can lend 2^61 bytes. So these lengths come with the address of memory that is shorter and may not be read, but for the
  * beginning of a report just before it: C's side of the header is broken on purpose, and a call that reads on ends the program. */
@@ -14,10 +15,14 @@
 #define MOST (((size_t)1 << 61) - 1)
 #define LONGER ((size_t)1 << 32)
 enum { PAGE = 1 << 16, OUT = 2 * TIRMUZZLE_SHA512_DIGEST, FILLING = 0xa5 };
+enum { SHORTEST = TIRMUZZLE_SHORTEST_REPORT_KEY };
 enum { SITES = 2 };           /* of the report that would be written */
 enum { FREE, USED, UNSOUND }; /* in_use of a ledger's only record: the ledger is empty, full, or not sound */
 
 static const uint8_t abc[] = {'a', 'b', 'c'}, key[] = {'k', 'e', 'y'};
+static const uint8_t report_key[SHORTEST] = {'r', 'e', 'p', 'o', 'r', 't'}, other_key[SHORTEST] = {'o', 't', 'h', 'e', 'r'};
+static const size_t short_keys[] = {0, 1, SHORTEST - 1};
+enum { SHORT_KEYS = sizeof short_keys / sizeof *short_keys };
 static uint8_t *unreadable, out[OUT], long_out[255 * TIRMUZZLE_SHA512_DIGEST + 1];
 static uint64_t words[TIRMUZZLE_FIELDS];
 static int calls;
@@ -138,8 +143,8 @@ static uint32_t submitting(uint64_t in_use, const uint8_t *report, size_t report
     return answer;
 }
 
-/* The smallest report under a key that is too long; then as the beginning of one that is 4 GiB, or 2^61 bytes, longer than its count
- * says, and of which no more can be read. */
+/* The smallest report under a key that is too long or too short; then as the beginning of one that is 4 GiB, or 2^61 bytes, longer than
+ * its count says, and of which no more can be read. */
 static void refused_reports(void)
 {
     static const uint8_t start[] = {0, 0, 0, TIRMUZZLE_SMALLEST_REPORT - 4, 1, TIRMUZZLE_SHA256};
@@ -153,40 +158,90 @@ static void refused_reports(void)
     refuses("fingerprint, key and a wrong size", 3, tirmuzzle_report_fingerprint(report, sizeof report, unreadable, over, out, 1));
     refuses("fingerprint, longest key and a wrong size", 6,
             tirmuzzle_report_fingerprint(report, sizeof report, unreadable, MOST, out, 1));
+    refuses("fingerprint, shortest key and a wrong size", 6,
+            tirmuzzle_report_fingerprint(report, sizeof report, unreadable, SHORTEST, out, 1));
+    for (size_t i = 0; i < SHORT_KEYS; i++) {
+        size_t shorter = short_keys[i];
+        refuses("check, short key", 21, tirmuzzle_report_check(report, sizeof report, unreadable, shorter));
+        refuses("check, short key and a short report", 11, tirmuzzle_report_check(report, sizeof report - 1, unreadable, shorter));
+        refuses("fingerprint, short key", 21, tirmuzzle_report_fingerprint(report, sizeof report, unreadable, shorter, out, 32));
+        refuses("fingerprint, short key and a wrong size", 21,
+                tirmuzzle_report_fingerprint(report, sizeof report, unreadable, shorter, out, 1));
+        refuses("fingerprint, short key and a short report", 11,
+                tirmuzzle_report_fingerprint(report, sizeof report - 1, unreadable, shorter, out, 32));
+    }
     for (size_t i = 0; i < sizeof lengths / sizeof *lengths; i++) {
         size_t longer = lengths[i];
         refuses("read, longer", 11, tirmuzzle_report_read(beginning, longer, words, TIRMUZZLE_FIELDS));
         refuses("site, longer", 11, tirmuzzle_report_site(beginning, longer, 0, words, TIRMUZZLE_SITE_NUMBERS));
-        refuses("check, longer", 11, tirmuzzle_report_check(beginning, longer, key, 3));
-        refuses("fingerprint, longer", 11, tirmuzzle_report_fingerprint(beginning, longer, key, 3, out, 32));
-        refuses("submit, longer", 11, submitting(FREE, beginning, longer, key, 3, key, 3));
-        refuses("submit, longer, and an unsound ledger", 10, submitting(UNSOUND, beginning, longer, key, 3, key, 3));
+        refuses("check, longer", 11, tirmuzzle_report_check(beginning, longer, report_key, SHORTEST));
+        refuses("fingerprint, longer", 11, tirmuzzle_report_fingerprint(beginning, longer, report_key, SHORTEST, out, 32));
+        refuses("submit, longer", 11, submitting(FREE, beginning, longer, report_key, SHORTEST, report_key, SHORTEST));
+        refuses("submit, longer, and an unsound ledger", 10,
+                submitting(UNSOUND, beginning, longer, report_key, SHORTEST, report_key, SHORTEST));
     }
 }
 
 /* Keys that are too long for a submission, each alone, and beside earlier and later refusals; then the longest keys, which are not
  * read where something is refused before them. */
-static void refused_submissions(uint32_t hash)
+static void refused_long_submissions(const uint8_t *report, size_t length)
 {
     size_t over = MOST + 1;
-    uint8_t report[TIRMUZZLE_LARGEST_REPORT];
-    uint64_t length;
-    require(tirmuzzle_report_write(hash, 7, 258, 9, 1000, 0, 1 << 30, NULL, 0, NULL, 0, NULL, 0, NULL, 0, key, 3, report,
-                                   sizeof report, &length) == TIRMUZZLE_DONE,
-            "a report without sites");
-    refuses("submit, tag key", 3, submitting(FREE, report, length, unreadable, over, key, 3));
+    refuses("submit, tag key", 3, submitting(FREE, report, length, unreadable, over, report_key, SHORTEST));
     refuses("submit, both keys", 3, submitting(FREE, report, length, unreadable, over, unreadable, over));
-    refuses("submit, tag key and a full ledger", 3, submitting(USED, report, length, unreadable, over, key, 3));
-    refuses("submit, tag key and a short report", 11, submitting(FREE, report, length - 1, unreadable, over, key, 3));
-    refuses("submit, tag key and an unsound ledger", 10, submitting(UNSOUND, report, length, unreadable, over, key, 3));
-    refuses("submit, fingerprint key", 3, submitting(FREE, report, length, key, 3, unreadable, over));
-    refuses("submit, fingerprint key and a full ledger", 3, submitting(USED, report, length, key, 3, unreadable, over));
-    refuses("submit, fingerprint key and another tag", 1, submitting(FREE, report, length, abc, 3, unreadable, over));
-    refuses("submit, fingerprint key and a short report", 11, submitting(FREE, report, length - 1, key, 3, unreadable, over));
-    refuses("submit, fingerprint key and an unsound ledger", 10, submitting(UNSOUND, report, length, key, 3, unreadable, over));
+    refuses("submit, tag key and a full ledger", 3, submitting(USED, report, length, unreadable, over, report_key, SHORTEST));
+    refuses("submit, tag key and a short report", 11, submitting(FREE, report, length - 1, unreadable, over, report_key, SHORTEST));
+    refuses("submit, tag key and an unsound ledger", 10, submitting(UNSOUND, report, length, unreadable, over, report_key, SHORTEST));
+    refuses("submit, fingerprint key", 3, submitting(FREE, report, length, report_key, SHORTEST, unreadable, over));
+    refuses("submit, fingerprint key and a full ledger", 3, submitting(USED, report, length, report_key, SHORTEST, unreadable, over));
+    refuses("submit, fingerprint key and another tag", 1, submitting(FREE, report, length, other_key, SHORTEST, unreadable, over));
+    refuses("submit, fingerprint key and a short report", 11,
+            submitting(FREE, report, length - 1, report_key, SHORTEST, unreadable, over));
+    refuses("submit, fingerprint key and an unsound ledger", 10,
+            submitting(UNSOUND, report, length, report_key, SHORTEST, unreadable, over));
     refuses("submit, longest keys and a short report", 11, submitting(FREE, report, length - 1, unreadable, MOST, unreadable, MOST));
     refuses("submit, tag key, longest fingerprint key", 3, submitting(FREE, report, length, unreadable, over, unreadable, MOST));
-    refuses("submit, longest fingerprint key and another tag", 1, submitting(FREE, report, length, abc, 3, unreadable, MOST));
+    refuses("submit, longest fingerprint key and another tag", 1,
+            submitting(FREE, report, length, other_key, SHORTEST, unreadable, MOST));
+}
+
+/* Keys that are too short for a submission, each alone, beside the other one too short or too long, and beside earlier and later
+ * refusals. */
+static void refused_short_submissions(const uint8_t *report, size_t length, size_t shorter)
+{
+    size_t over = MOST + 1;
+    refuses("submit, short tag key", 21, submitting(FREE, report, length, unreadable, shorter, report_key, SHORTEST));
+    refuses("submit, short keys", 21, submitting(FREE, report, length, unreadable, shorter, unreadable, shorter));
+    refuses("submit, short tag key and long fingerprint key", 21,
+            submitting(FREE, report, length, unreadable, shorter, unreadable, over));
+    refuses("submit, long tag key and short fingerprint key", 3,
+            submitting(FREE, report, length, unreadable, over, unreadable, shorter));
+    refuses("submit, short tag key and a full ledger", 21, submitting(USED, report, length, unreadable, shorter, report_key, SHORTEST));
+    refuses("submit, short tag key and a short report", 11,
+            submitting(FREE, report, length - 1, unreadable, shorter, report_key, SHORTEST));
+    refuses("submit, short tag key and an unsound ledger", 10,
+            submitting(UNSOUND, report, length, unreadable, shorter, report_key, SHORTEST));
+    refuses("submit, short fingerprint key", 21, submitting(FREE, report, length, report_key, SHORTEST, unreadable, shorter));
+    refuses("submit, short fingerprint key and a full ledger", 21,
+            submitting(USED, report, length, report_key, SHORTEST, unreadable, shorter));
+    refuses("submit, short fingerprint key and another tag", 1,
+            submitting(FREE, report, length, other_key, SHORTEST, unreadable, shorter));
+    refuses("submit, short fingerprint key and a short report", 11,
+            submitting(FREE, report, length - 1, report_key, SHORTEST, unreadable, shorter));
+    refuses("submit, short fingerprint key and an unsound ledger", 10,
+            submitting(UNSOUND, report, length, report_key, SHORTEST, unreadable, shorter));
+}
+
+static void refused_submissions(uint32_t hash)
+{
+    uint8_t report[TIRMUZZLE_LARGEST_REPORT];
+    uint64_t length;
+    require(tirmuzzle_report_write(hash, 7, 258, 9, 1000, 0, 1 << 30, NULL, 0, NULL, 0, NULL, 0, NULL, 0, report_key, SHORTEST,
+                                   report, sizeof report, &length) == TIRMUZZLE_DONE,
+            "a report without sites");
+    refused_long_submissions(report, length);
+    for (size_t i = 0; i < SHORT_KEYS; i++)
+        refused_short_submissions(report, length, short_keys[i]);
 }
 
 /* An unsound ledger is refused before a byte of the report or of a key is read. */
@@ -210,8 +265,8 @@ static uint32_t writing(uint32_t hash, uint64_t live, const uint8_t *labels, siz
     return answer;
 }
 
-/* A key that is too long to write a report, alone, beside earlier refusals and beside the later one; then labels that are 4 GiB, or
- * 2^61 bytes, longer than their lengths say. */
+/* A key that is too long or too short to write a report, alone, beside earlier refusals and beside the later one; then labels that are
+ * 4 GiB, or 2^61 bytes, longer than their lengths say. */
 static void refused_writing(uint32_t hash)
 {
     size_t over = MOST + 1;
@@ -221,8 +276,17 @@ static void refused_writing(uint32_t hash)
     refuses("write, key and a short buffer", 3, writing(hash, 5, abc, 3, over, 1));
     refuses("write, longest key and a short buffer", 18, writing(hash, 5, abc, 3, MOST, 1));
     refuses("write, key and no hash", 2, writing(hash + 2, 5, abc, 3, over, OUT));
-    refuses("write, longer labels", 15, writing(hash, 5, unreadable, LONGER + 3, 3, OUT));
-    refuses("write, longest labels", 15, writing(hash, 5, unreadable, over + 3, 3, OUT));
+    refuses("write, shortest key and a short buffer", 18, writing(hash, 5, abc, 3, SHORTEST, 1));
+    for (size_t i = 0; i < SHORT_KEYS; i++) {
+        size_t shorter = short_keys[i];
+        refuses("write, short key", 21, writing(hash, 5, abc, 3, shorter, OUT));
+        refuses("write, short key and live bytes", 16, writing(hash, (uint64_t)1 << 63, abc, 3, shorter, OUT));
+        refuses("write, short key and labels", 15, writing(hash, 5, abc, 2, shorter, OUT));
+        refuses("write, short key and a short buffer", 21, writing(hash, 5, abc, 3, shorter, 1));
+        refuses("write, short key and no hash", 2, writing(hash + 2, 5, abc, 3, shorter, OUT));
+    }
+    refuses("write, longer labels", 15, writing(hash, 5, unreadable, LONGER + 3, SHORTEST, OUT));
+    refuses("write, longest labels", 15, writing(hash, 5, unreadable, over + 3, SHORTEST, OUT));
 }
 
 int main(void)
@@ -242,6 +306,6 @@ int main(void)
     refused_submissions(TIRMUZZLE_SHA256);
     refused_submissions(TIRMUZZLE_SHA512);
     refused_ledger();
-    printf("%d calls, of lengths at 2^61 and of reports and labels that are too long\n", calls);
+    printf("%d calls, of lengths at 2^61, of reports and labels that are too long, and of keys that are too short\n", calls);
     return 0;
 }

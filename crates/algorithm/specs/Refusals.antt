@@ -86,6 +86,10 @@ ledgerFull = 19
 abbrev pub totalTooLarge : ℕ
 totalTooLarge = 20
 
+-- a report's key under 16 bytes
+abbrev pub keyTooShort : ℕ
+keyTooShort = 21
+
 -- the most bytes of a key, and the most bytes hashed in all (refusals 3 and 4)
 abbrev pub mostBytes : ℕ
 mostBytes = 2 ^ 61 - 1

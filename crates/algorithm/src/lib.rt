@@ -12,6 +12,7 @@ pub use refusals::BUFFER_TOO_SHORT;
 pub use refusals::DONE;
 pub use refusals::INFO_TOO_LONG;
 pub use refusals::KEY_TOO_LONG;
+pub use refusals::KEY_TOO_SHORT;
 pub use refusals::LABEL_LENGTH_OUT_OF_RANGE;
 pub use refusals::LEDGER_FULL;
 pub use refusals::MESSAGE_TOO_LONG;

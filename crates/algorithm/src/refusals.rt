@@ -43,6 +43,8 @@ pub const BUFFER_TOO_SHORT: u32 = 18;
 pub const LEDGER_FULL: u32 = 19;
 // The sum of the ledger's live bytes would be over 2^64 - 1.
 pub const TOTAL_TOO_LARGE: u32 = 20;
+// A report's key under 16 bytes.
+pub const KEY_TOO_SHORT: u32 = 21;
 
 // The most bytes of a key, and the most bytes hashed in all (refusals 3 and 4).
 pub const MOST_BYTES: u64 = (1 << 61) - 1;

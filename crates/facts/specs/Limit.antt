@@ -96,18 +96,20 @@ pub record Limit : Type 0 where
       → keysAnswer n prk tenant machine out ≡ written done (keysOf (hashNamed n) prk tenant machine)
   pub keys-refused : (n : ℕ) (prk : List ℕ) (tenant machine : ℕ) (out : List ℕ) → namesHash n ≡ true → 2 ^ 61 ≤ length prk
       → keysAnswer n prk tenant machine out ≡ written keyTooLong out
-  -- So do the checks of a report's key, which comparing, the fingerprint, writing and the ledger share.
-  pub report-key-taken : (key : List ℕ) → length key < 2 ^ 61 → firstFailing (keyChecks key) ≡ done
+  -- So do the checks of a report's key, which comparing, the fingerprint, writing and the ledger share. To be taken, that key also needs
+  -- 16 bytes.
+  pub report-key-taken : (key : List ℕ) → 16 ≤ length key → length key < 2 ^ 61 → firstFailing (keyChecks key) ≡ done
   pub report-key-refused : (key : List ℕ) → 2 ^ 61 ≤ length key → firstFailing (keyChecks key) ≡ keyTooLong
   -- The first three of these calls answer by them, once the checks before pass.
-  pub compare-taken : (s key : List ℕ) → WellFormed s → length key < 2 ^ 61
+  pub compare-taken : (s key : List ℕ) → WellFormed s → 16 ≤ length key → length key < 2 ^ 61
       → checkAnswer s key ≡ cond (equal (drop (tagStart s) s) (tagOf (hashIn s) key (tagSizeIn s) (beforeTag s))) done tagDiffers
   pub compare-refused : (s key : List ℕ) → WellFormed s → 2 ^ 61 ≤ length key → checkAnswer s key ≡ keyTooLong
-  pub fingerprint-taken : (s key out : List ℕ) → WellFormed s → length out ≡ 32 → length key < 2 ^ 61
+  pub fingerprint-taken : (s key out : List ℕ) → WellFormed s → length out ≡ 32 → 16 ≤ length key → length key < 2 ^ 61
       → fingerprintAnswer s key out ≡ written done (fingerprintOf s key)
   pub fingerprint-refused : (s key out : List ℕ) → WellFormed s → 2 ^ 61 ≤ length key → fingerprintAnswer s key out ≡ written keyTooLong out
   pub write-taken : (h : Heading) (c : Columns) (key out : List ℕ) → namesHash (h .hash) ≡ true → Pass (columnChecks c)
       → length (reportOf (fieldsFrom h (sitesOf c)) key) ≤ length out
+      → 16 ≤ length key
       → length key < 2 ^ 61
       → writeAnswer h c key out ≡ wroteReport (reportOf (fieldsFrom h (sitesOf c)) key) out
   pub write-refused : (h : Heading) (c : Columns) (key out : List ℕ) → namesHash (h .hash) ≡ true → Pass (columnChecks c) → 2 ^ 61 ≤ length key

@@ -24,6 +24,7 @@ pub(crate) fn words(number: u32) -> [u8; 44] {
         18 => *b"18 buffer too short for the report          ",
         19 => *b"19 no record of the ledger is free          ",
         20 => *b"20 ledger's sum would pass 2^64 - 1         ",
+        21 => *b"21 report's key under 16 bytes              ",
         _ => *b"a number that the rules do not have         ",
     }
 }

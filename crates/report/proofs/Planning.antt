@@ -90,7 +90,7 @@ module _ (n : ℕ) (c : Columns) where
     pub plan-made : firstFailing (columnChecks c) ≡ done → _≡_ {A = Plan} (record { number = done; «body_size» = bodySize c; «tag_size» = tagSize n }) (planOf n c)
     plan-made d = let passes : firstFailing (planChecks n c) ≡ done = rw known d in rw passes
 
--- the last two checks
+-- the last checks, of the key and of the buffer
 module _ (key out : List ℕ) (size : ℕ) where
   abbrev room : List Check
   room = check (leb size (length out)) bufferTooShort ∷ []

@@ -169,7 +169,7 @@ module _ (h : Heading) (c : Columns) (key out : List ℕ) (p : Plan) (e : p ≡ 
     pub small : (p .«body_size» ≤ 3949) × (p .«tag_size» ≤ 32)
     small = (omega (arith, body, plan .columns-fit .few, labels-most (plan .columns-fit)), omega (arith, tag, tag-most (h .hash)))
 
-    -- by its last two checks
+    -- by its last checks
     module _ {k n : ℕ} (ek : k ≡ firstFailing (keyChecks key))
         {short : Bool} (es : short ≡ ltb (length out) (p .«body_size» + p .«tag_size»)) (en : n ≡ lastOf k (not (eqb k done)) short) where
       last-number : n ≡ firstFailing (writeChecks h c key out)

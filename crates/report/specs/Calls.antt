@@ -3,6 +3,7 @@
 -- who read a report and writes it again. Assumes nothing.
 pub mod Laws
 pub mod Write
+pub mod Short
 pub mod RoundTrip
 pub mod Unique
 use mathlib.Core.Path.{_≡_}
@@ -14,7 +15,7 @@ use lib.ListN.{length, take, drop, getD}
 use Rattle.octets.specs.Every.{every}
 use Rattle.octets.specs.Sums.{sumOf, largestTotal}
 use Rattle.algorithm.specs.Hashes.{sizeOf}
-use Rattle.algorithm.specs.Refusals.{done, unknownHash, keyTooLong, wrongSize, prkTooShort, tooManySites, labelLengthOutOfRange, sitesMisplaced, sumTooLarge, noSuchSite, bufferTooShort, mostBytes}
+use Rattle.algorithm.specs.Refusals.{done, unknownHash, keyTooLong, keyTooShort, wrongSize, prkTooShort, tooManySites, labelLengthOutOfRange, sitesMisplaced, sumTooLarge, noSuchSite, bufferTooShort, mostBytes}
 use Rattle.algorithm.specs.Checks.{Check, check, firstFailing, decided, answered}
 use Rattle.hmac.specs.Hmac.{tagOf}
 use Rattle.hmac.specs.Calls.{compareChecks}
@@ -138,9 +139,9 @@ pub record Points (s : List ℕ) (label : List ℕ) (r : SiteAt) : Type 0 where
   pub room : r .start + r .length ≤ length s
   pub is : take (r .length) (drop (r .start) s) ≡ label
 
--- the check of a report's key
+-- the checks of a report's key
 abbrev pub keyChecks : List ℕ → List Check
-keyChecks key = check (leb (length key) mostBytes) keyTooLong ∷ []
+keyChecks key = check (leb (length key) mostBytes) keyTooLong ∷ check (leb 16 (length key)) keyTooShort ∷ []
 
 -- check(report, tag_key)
 abbrev pub tagChecks : List ℕ → List ℕ → List Check

@@ -1,7 +1,7 @@
 -- Private: what the private functions ask and promise, and what the laws on the way to the calls speak of. Assumes nothing.
 use mathlib.Core.Path.{_≡_}
 use mathlib.Core.Bool.{Bool, true, cond, _&&_}
-use mathlib.Core.List.{List, _∷_, _++_}
+use mathlib.Core.List.{List, [], _∷_, _++_}
 use Prim.Native.Nat.{ℕ, suc, _+_, _-_, _*_, _^_, _≤_, _<_}
 use lib.Dec.{leb}
 use lib.ListN.{length, take, drop, getD}
@@ -30,6 +30,11 @@ pub record First (n size : ℕ) (l : List ℕ) : Type 0 where
 -- what the fields after the attempt spell
 abbrev pub afterAttempt : Fields → List ℕ
 afterAttempt f = bytes 8 (f .memory) ++ (bytes 2 (length (f .sites)) ++ sitesBytes (f .sites))
+
+-- no check has a number over this one
+abbrev pub numbersAtMost : ℕ → List Check → Bool
+numbersAtMost most [] = true
+numbersAtMost most (c ∷ cs) = leb (c .number) most && numbersAtMost most cs
 
 -- what a report has that reading lets pass
 pub record Passed (s : List ℕ) : Type 0 where

@@ -1,4 +1,4 @@
-// The checks of a report in their order, and the check of its key.
+// The checks of a report in their order, and those of its key.
 ghost use mathlib.Core.Path.{_≡_};
 ghost use Rattle.algorithm.specs.Checks.{firstFailing};
 ghost use Rattle.report.specs.Reading.{startChecks};
@@ -6,6 +6,7 @@ ghost use Rattle.report.specs.Calls.{keyChecks};
 ghost use Rattle.report.specs.Inside.{headOf, stoppedHead, checkedOf, stopped};
 use crate::format::HEAD;
 use crate::format::MOST_SITES;
+use crate::format::SHORTEST_REPORT_KEY;
 use crate::format::SMALLEST_REPORT;
 use crate::format::hash_named;
 use crate::format::tag_size;
@@ -111,12 +112,15 @@ pub(crate) fn check_report(report: &[u8]) -> Checked
     }
 }
 
-// The check of a report's key, which writing, the tag and the fingerprint share.
+// The checks of a report's key, which writing, the tag and the fingerprint share.
 pub(crate) fn check_key(key: &[u8]) -> u32
     ensures { λ r. ⌜ r ≡ firstFailing (keyChecks (now (key .entry))) ⌝ }
 {
     if algorithm::MOST_BYTES < key.len() as u64 {
         return algorithm::KEY_TOO_LONG;
+    }
+    if key.len() < SHORTEST_REPORT_KEY {
+        return algorithm::KEY_TOO_SHORT;
     }
     algorithm::DONE
 }

@@ -26,8 +26,8 @@ fn tag_pieces(hash: u32, key: &[u8], first: &[u8], second: &[u8], out: &mut [u8]
     hmac::tag(after_second, out);
 }
 
-// All bytes before the tag but the count, the send time and the attempt; reading's numbers, 3 where the key is too long, 6 where the
-// output has not 32 bytes.
+// All bytes before the tag but the count, the send time and the attempt; reading's numbers, 3 where the key is too long, 21 where it is
+// too short, 6 where the output has not 32 bytes.
 pub fn fingerprint(report: &[u8], fingerprint_key: &[u8], out: &mut [u8]) -> u32
     ensures { λ r. ⌜ FingerprintOutcome (now (report .entry)) (now («fingerprint_key» .entry)) (now (out .entry)) r (now (out .exit)) ⌝ }
 {

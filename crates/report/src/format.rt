@@ -27,6 +27,8 @@ pub(crate) const GAP_START: usize = 26;
 pub(crate) const GAP_END: usize = 35;
 // The bytes of a fingerprint.
 pub(crate) const FINGERPRINT: usize = 32;
+// The fewest bytes of a report's key.
+pub(crate) const SHORTEST_REPORT_KEY: usize = 16;
 
 // The hash that a report names by a number. Reports have their own list: a hash that other calls make is none of theirs.
 pub(crate) fn hash_named(hash_number: u32) -> Named

@@ -39,7 +39,7 @@ fn too_short(room: usize, size: usize) -> bool
     room < size
 }
 
-// What the last two checks say: the number of a key that is refused, then 18 where the buffer is too short.
+// What the last checks say: the number of a key that is refused, then 18 where the buffer is too short.
 fn last_number(key_number: u32, key_refused: bool, short: bool) -> u32
     ensures { λ r. ⌜ r ≡ lastOf «key_number» «key_refused» short ⌝ }
 {
@@ -54,7 +54,8 @@ fn last_number(key_number: u32, key_refused: bool, short: bool) -> u32
 
 // Writes a report and its tag over the beginning of `out`; 2 where no report names the hash, 6 where the three slices of numbers are of
 // unequal length, 13 where there are too many sites, 14 where a label's length is out of range, 15 where the labels do not have as many
-// bytes as the lengths add up to, 16 where the live bytes add up to too much, 3 where the key is too long, 18 where `out` is too short.
+// bytes as the lengths add up to, 16 where the live bytes add up to too much, 3 where the key is too long, 21 where it is too short, 18
+// where `out` is too short.
 pub fn write(
     heading: Heading,
     labels: &[u8],

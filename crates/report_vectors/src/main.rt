@@ -3,6 +3,7 @@
 mod again;
 mod calls;
 mod input;
+mod ledgers;
 mod records;
 mod say;
 

@@ -2,6 +2,7 @@
 use crate::again;
 use crate::calls;
 use crate::input;
+use crate::ledgers;
 use crate::say;
 use report::Heading;
 
@@ -131,6 +132,20 @@ fn write() -> bool {
     )
 }
 
+fn submit() -> bool {
+    let mut whole = true;
+    let mut space = [0u8; REPORT];
+    let mut tag_space = [0u8; KEY];
+    let mut fingerprint_space = [0u8; KEY];
+    let n = input::string(&mut space, &mut whole);
+    let t = input::string(&mut tag_space, &mut whole);
+    let f = input::string(&mut fingerprint_space, &mut whole);
+    if whole {
+        ledgers::submit_twice(&space[0..n], &tag_space[0..t], &fingerprint_space[0..f]);
+    }
+    whole
+}
+
 // The next record, and whether there may be another.
 pub(crate) fn next() -> bool {
     let mut begun = true;
@@ -144,6 +159,7 @@ pub(crate) fn next() -> bool {
         3 => fingerprint(),
         4 => keys(),
         5 => write(),
+        6 => submit(),
         _ => false,
     };
     if !whole {

@@ -1,4 +1,6 @@
 // What the program writes: words, numbers, bytes and what came back of a call.
+use ledger::Answer;
+use ledger::Record;
 use libc::STDOUT_FILENO;
 use report::Reading;
 use report::SiteAt;
@@ -77,4 +79,18 @@ pub(crate) fn written(answered: Written, out: &[u8]) {
     number(answered.number as u64);
     text(b", ");
     answer(answered.length as u64, out);
+}
+
+// What a submission answers, and the record of the ledger after it.
+pub(crate) fn submitted(answered: Answer, record: Record) {
+    let fingerprint = record.fingerprint;
+    number(ledger::answer_number(answered) as u64);
+    text(b", ");
+    number(ledger::answer_seen(answered) as u64);
+    text(b",");
+    next(record.in_use);
+    next(record.live);
+    text(b" ");
+    bytes(&fingerprint);
+    text(b"\n");
 }

@@ -1,12 +1,13 @@
 -- Proved: laws of checks in their order: a number comes back exactly when its check fails and every earlier one passes; a call is done
 -- exactly when all pass; and no second outcome meets an equation that a first one meets. Assumes nothing.
 use mathlib.Core.Path.{_≡_, refl, sym, subst, _∙_}
-use mathlib.Core.Logic.{_↔_}
+use mathlib.Core.Logic.{_↔_, _⊎_, inl, inr, ⊎-elim}
 use mathlib.Core.Bool.{Bool}
 use mathlib.Core.List.{List, [], _∷_, _++_}
 use Prim.Native.Nat.{ℕ, suc}
 use native.Mathlib.Omega.{arith}
-use borrow.Author.Tests.{eq-eqb, ne-eqb}
+use lib.Dec.{eqb}
+use borrow.Author.Tests.{eq-eqb, ne-eqb, eqb-true, eqb-false}
 use Rattle.algorithm.specs.Cases.Laws.{test}
 use Rattle.algorithm.specs.Cases.Test.{yes, no}
 use Rattle.algorithm.specs.Refusals.{done}
@@ -62,6 +63,31 @@ append-passes [] b e r = refl
 append-passes (c ∷ a) b e (more z r) = elim (test (c .passes)) [
   | yes t ↦ rw t (append-passes a b (rw t at e) r)
   | no t ↦ absurd (z t (rw t at e))
+]
+
+-- so a number other than `done` comes back exactly when it does from the first, or all of those pass and it does from the rest
+pub append-number : (a b : List Check) (n : ℕ) → (n ≡ done → ⊥) → Refusing a
+    → firstFailing (a ++ b) ≡ n ↔ (firstFailing a ≡ n) ⊎ (Pass a × (firstFailing b ≡ n))
+append-number a b n z r = elim (test (eqb (firstFailing a) done)) [
+  | yes t ↦
+      let d = eqb-true (firstFailing a) done t in
+      let rest = append-passes a b d r in (
+        λ e. inr (done-passes a r d, sym rest ∙ e),
+        ⊎-elim (λ e. absurd (z (sym e ∙ d))) (λ p. rest ∙ p .1),
+      )
+  | no t ↦
+      let f = eqb-false (firstFailing a) done t in
+      let first = append-refuses a b f in (
+        λ e. inl (sym first ∙ e),
+        ⊎-elim (λ e. first ∙ e) (λ p. absurd (f (passes-done (p .0)))),
+      )
+]
+
+-- a number that is not that of the first check, and does not come back from the rest, does not come back
+pub other-number : (c : Check) (cs : List Check) (n : ℕ) → (c .number ≡ n → ⊥) → (firstFailing cs ≡ n → ⊥) → firstFailing (c ∷ cs) ≡ n → ⊥
+other-number c cs n first rest e = elim (test (c .passes)) [
+  | yes t ↦ rest (rw t at e)
+  | no t ↦ first (rw t at e)
 ]
 
 -- all of them pass exactly when the first do and the rest do

@@ -8,7 +8,7 @@ use native.Mathlib.Nat.{pow-suc}
 use native.Mathlib.Omega.{arith}
 use lib.Dec.{leb}
 use lib.ListN.{length, drop}
-use borrow.Author.Tests.{le-leb, lt-leb}
+use borrow.Author.Tests.{le-leb}
 use Rattle.octets.specs.Every.{allZero}
 use Rattle.octets.specs.Every.Laws.{refuted}
 use Rattle.octets.specs.Number.{onto, number, bytes}
@@ -18,8 +18,8 @@ use Rattle.algorithm.specs.Hashes.{names, hashOf, allowed}
 use Rattle.algorithm.specs.Hashes.Laws.{block-most}
 use Rattle.algorithm.specs.Refusals.{done, unknownHash, keyTooLong, bufferTooShort, mostBytes}
 use Rattle.algorithm.specs.Checks.{Check, check, firstFailing, Pass}
-use Rattle.algorithm.specs.Checks.Pass.{all, and}
-use Rattle.algorithm.specs.Checks.Laws.{passes-done, append-passes, append-refuses}
+use Rattle.algorithm.specs.Checks.Pass.{and}
+use Rattle.algorithm.specs.Checks.Laws.{passes-done, done-passes, append-passes, append-refuses}
 use Rattle.hash.specs.Description.{narrow}
 use Rattle.hash.specs.Sha2.{fieldSize, lengthField}
 use Rattle.hash.specs.State.{waitingCount, fit, soundOf}
@@ -64,12 +64,12 @@ passed : (n : ℕ) (key : List ℕ) (t : ℕ) → startOf n key t .number ≡ do
 passed n key t accepted = hmac.start-passes n key t (hmac.start-done n key t .0 accepted)
 
 -- a report's key
-key-passes : (key : List ℕ) → length key < 2 ^ 61 → firstFailing (keyChecks key) ≡ done
-key-passes key l = rw (le-leb (length key) mostBytes (omega arith))
+key-passes : (key : List ℕ) → 16 ≤ length key → length key < 2 ^ 61 → firstFailing (keyChecks key) ≡ done
+key-passes key k l = report.key-accepted key k (omega arith)
 
 module _ (key : List ℕ) (l : 2 ^ 61 ≤ length key) where
   key-fails : firstFailing (keyChecks key) ≡ keyTooLong
-  key-fails = rw (lt-leb (length key) mostBytes (omega arith))
+  key-fails = report.key-too-long key (omega arith)
 
   not-done : firstFailing (keyChecks key) ≡ done → ⊥
   not-done d = omega (arith, sym key-fails ∙ d)
@@ -122,15 +122,15 @@ limit = record {
   keys-refused = λ n prk tenant machine out h l. report.keys-too-long n prk tenant machine out h (omega arith);
   report-key-taken = key-passes;
   report-key-refused = key-fails;
-  compare-taken = λ s key w l. report.check-compared s key (well-formed-passed s w) (key-passes key l);
+  compare-taken = λ s key w k l. report.check-compared s key (well-formed-passed s w) (key-passes key k l);
   compare-refused = λ s key w l. report.check-key s key (well-formed-passed s w) (not-done key l) ∙ key-fails key l;
-  fingerprint-taken = λ s key out w size l. report.fingerprint-accepted s key out (well-formed-passed s w) (key-passes key l) size;
+  fingerprint-taken = λ s key out w size k l. report.fingerprint-accepted s key out (well-formed-passed s w) (key-passes key k l) size;
   fingerprint-refused = λ s key out w l.
       report.fingerprint-key s key out (well-formed-passed s w) (not-done key l) ∙ ap (λ (r : ℕ). (r, out)) (key-fails key l);
-  write-taken = λ h c key out known p room l.
+  write-taken = λ h c key out known p room k l.
       writing.write-accepted h c key out (record {
         planned = writing.plan-parts (h .hash) c (and known p);
-        key-passes = and (le-leb (length key) mostBytes (omega arith)) all;
+        key-passes = done-passes (keyChecks key) (report.key-refusing key) (key-passes key k l);
         room = room;
       });
   write-refused = λ h c key out known p l. writing.write-refused h c key out keyTooLong (write-fails h c key out known p l) (λ z. omega arith);

@@ -1,27 +1,28 @@
 -- Proved: laws of the calls: each number comes back exactly when its check fails and every earlier one passes, a report is new or seen
 -- exactly when it should be, what a submission leaves of the records, and what the total is. Assumes nothing.
 use mathlib.Core.Path.{_≡_, refl, sym, ap, subst, _∙_}
-use mathlib.Core.Logic.{_↔_}
-use mathlib.Core.Bool.{Bool, true, false, cond, true≢false}
-use mathlib.Core.List.{List, [], _∷_}
-use Prim.Native.Nat.{ℕ, _+_, _≤_}
+use mathlib.Core.Logic.{_↔_, _⊎_, inl, inr, ⊎-elim, ⊎-map}
+use mathlib.Core.Bool.{Bool, true, false, not, cond, _||_, true≢false}
+use mathlib.Core.List.{List, [], _∷_, _++_}
+use Prim.Native.Nat.{ℕ, _+_, _≤_, _<_}
 use native.Mathlib.Omega.{arith}
 use native.Mathlib.Decide.{ℕ-discrete}
+use lib.Dec.{leb}
 use lib.ListN.{length, getD, set}
 use lib.Seq.{getD-set-other}
 use borrow.Author.Tests.{leb-true, le-leb, not-true}
 use Rattle.octets.specs.Same.Laws.{equal-tells}
 use Rattle.octets.specs.Sums.{largestTotal}
-use Rattle.algorithm.specs.Refusals.{done, stateNotSound}
+use Rattle.algorithm.specs.Refusals.{done, stateNotSound, ledgerFull, totalTooLarge, keyTooShort}
 use Rattle.algorithm.specs.Checks.{Check, check, firstFailing, Pass, Fail, Refusing}
 use Rattle.algorithm.specs.Checks.Pass.{all, and}
 use Rattle.algorithm.specs.Checks.Fail.{here, later}
 use Rattle.algorithm.specs.Checks.Refusing.{none, more}
-use Rattle.algorithm.specs.Checks.Laws.{exactly, fails-number, number-fails, done-passes, passes-done, refuses, pass-append, refusing-append, done-work, refused-given}
+use Rattle.algorithm.specs.Checks.Laws.{exactly, fails-number, number-fails, done-passes, passes-done, refuses, pass-append, append-number, other-number, refusing-append, done-work, refused-given}
 use Rattle.report.specs.Reading.{readChecks}
-use Rattle.report.specs.Reading.Laws.{read-refusing}
-use Rattle.report.specs.Calls.{keyChecks}
-use Rattle.report.specs.Calls.Laws.{key-refusing}
+use Rattle.report.specs.Calls.{keyChecks, tagChecks}
+use Rattle.report.specs.Calls.Laws.{key-refusing, key-parts, key-too-short, tag-refusing}
+use Rattle.report.specs.Calls.Short.{tag-too-short}
 use Rattle.ledger.specs.Records.{used, zeroRecord, allUsed, taken, totalOf, sound, FirstFree, entered}
 use Rattle.ledger.specs.Records.Laws.{entered-length, entered-keeps, entered-one, entered-taken, entered-sound}
 use Rattle.ledger.specs.Calls.{Submission, fingerprintIn, liveIn, recordOf, reportChecks, roomChecks, submitChecks, submitAnswer, IsSeen, IsNew, answerOf, totalAnswer}
@@ -32,10 +33,15 @@ use Rattle.ledger.specs.declared.answers.Answer.the-variants.{New, Seen,
 -- no check of a report or its keys that fails has the number of a call that is done
 pub report-refusing : (x : Submission) → Refusing (reportChecks x)
 report-refusing x =
-    refusing-append _ (keyChecks (x .fingerprintKey))
-    (refusing-append (readChecks (x .report)) _ (read-refusing (x .report))
-    (refusing-append (keyChecks (x .tagKey)) _ (key-refusing (x .tagKey)) (refuses _ _ none)))
-    (key-refusing (x .fingerprintKey))
+    refusing-append _ (keyChecks (x .fingerprintKey)) (tag-refusing (x .report) (x .tagKey)) (key-refusing (x .fingerprintKey))
+
+-- both keys of a good submission have 16 bytes at least
+pub good-keys : (x : Submission) → Pass (reportChecks x) → (16 ≤ length (x .tagKey)) × (16 ≤ length (x .fingerprintKey))
+good-keys x p =
+    let both = pass-append (tagChecks (x .report) (x .tagKey)) (keyChecks (x .fingerprintKey)) .0 p in
+    let tag = pass-append (readChecks (x .report)) _ .0 (both .0) in
+    let first = pass-append (keyChecks (x .tagKey)) _ .0 (tag .1) in
+    (key-parts (x .tagKey) (first .0) .1, key-parts (x .fingerprintKey) (both .1) .1)
 
 -- the number of a check that fails is never the one of a call that is done
 fail-refuses : {cs : List Check} {n : ℕ} → Refusing cs → Fail cs n → n ≡ done → ⊥
@@ -121,6 +127,40 @@ module _ (rs : List Record) (x : Submission) where
   -- a submission is refused with a number exactly when the number's check fails and every earlier one passes
   pub submit-refused : (n : ℕ) → submitAnswer rs x .0 ≡ Refused n ↔ Fail (submitChecks rs x) n
   submit-refused n = exactly-says (Refused n)
+
+  -- it is refused with 21 exactly when the slice is sound and either reading passes and the tag key has fewer than 16 bytes, or reading,
+  -- the tag key and the tag pass and the fingerprint key has fewer
+  pub submit-too-short : submitAnswer rs x .0 ≡ Refused keyTooShort
+      ↔ ((sound rs ≡ true)
+      × ((Pass (readChecks (x .report)) × (length (x .tagKey) < 16))
+      ⊎ (Pass (tagChecks (x .report) (x .tagKey)) × (length (x .fingerprintKey) < 16))))
+  submit-too-short =
+      let s : List ℕ = x .report in
+      let state : Check = check (sound rs) stateNotSound in
+      let free : Check = check (taken (fingerprintIn x) rs || not (allUsed rs)) ledgerFull in
+      let fits : Check = check (taken (fingerprintIn x) rs || leb (totalOf rs + liveIn x) largestTotal) totalTooLarge in
+      let called = exactly (submitChecks rs x) keyTooShort (λ z. omega arith) in
+      let all-checks = append-number (state ∷ []) (reportChecks x ++ roomChecks rs x) keyTooShort (λ z. omega arith) (refuses _ _ none) in
+      let report = append-number (reportChecks x) (roomChecks rs x) keyTooShort (λ z. omega arith) (report-refusing x) in
+      let keys = append-number (tagChecks s (x .tagKey)) (keyChecks (x .fingerprintKey)) keyTooShort (λ z. omega arith) (tag-refusing s (x .tagKey)) in
+      let tag = tag-too-short s (x .tagKey) in
+      let key = key-too-short (x .fingerprintKey) in (
+        λ e. ⊎-elim
+            (λ d. absurd (other-number state [] keyTooShort (λ z. omega arith) (λ z. omega arith) d))
+            (λ p. (
+              sound-passes (p .0),
+              ⊎-elim (λ d. ⊎-map (tag .0) (λ q. (q .0, key .0 (q .1))) (keys .0 d))
+                  (λ q. absurd (other-number free (fits ∷ []) keyTooShort (λ z. omega arith) (other-number fits [] keyTooShort (λ z. omega arith) (λ z. omega arith)) (q .1)))
+                  (report .0 (p .1)),
+            ))
+            (all-checks .0 (called .1 (submit-refused keyTooShort .0 e))),
+        λ p.
+            let number = keys .1 (⊎-map (tag .1) (λ q. (q .0, key .1 (q .1))) (p .1)) in
+            submit-refused keyTooShort .1 (called .0 (all-checks .1 (inr (and (p .0) all, report .1 (inl number))))),
+      )
+    where
+      sound-passes : Pass (check (sound rs) stateNotSound ∷ []) → sound rs ≡ true
+      sound-passes (and s all) = s
 
   -- a report is seen exactly when the slice is sound, the report and its keys are good, and its fingerprint is taken
   pub submit-seen : submitAnswer rs x .0 ≡ Seen ↔ IsSeen rs x

@@ -1,13 +1,15 @@
 -- Proved: laws of what is counted: after any sequence of submissions the records are sound and hold what the sequence counts, and a good
 -- submission is seen once one with its fingerprint was new or seen. Assumes nothing.
 use mathlib.Core.Path.{_≡_, refl, sym, ap, _∙_}
+use mathlib.Core.Logic.{_⊎_, ⊎-elim}
 use mathlib.Core.Bool.{Bool, true, false, not, cond, _&&_, _||_, true≢false}
-use mathlib.Core.List.{List, [], _∷_}
-use Prim.Native.Nat.{ℕ, _+_}
+use mathlib.Core.List.{List, [], _∷_, _++_}
+use Prim.Native.Nat.{ℕ, _+_, _<_}
+use native.Mathlib.Omega.{arith}
 use lib.Dec.{leb}
 use lib.ListN.{length, replicate, length-replicate}
 use borrow.Author.Tests.{leb-true, le-leb, eqb-true, not-true}
-use Rattle.octets.specs.Every.Laws.{and-parts}
+use Rattle.octets.specs.Every.Laws.{and-parts, refuted}
 use Rattle.octets.specs.Same.{equal}
 use Rattle.octets.specs.Sums.{largestTotal}
 use Rattle.algorithm.specs.Refusals.{done}
@@ -16,7 +18,7 @@ use Rattle.algorithm.specs.Checks.Laws.{done-passes, passes-done}
 use Rattle.ledger.specs.Records.{used, zeroRecord, allUsed, taken, totalOf, fingerprintsOf, sound}
 use Rattle.ledger.specs.Records.Laws.{sound-exactly, entered-total, entered-fingerprints, used-count, zeros-total, zeros-fingerprints, zeros-sound}
 use Rattle.ledger.specs.Calls.{Submission, fingerprintIn, liveIn, recordOf, reportChecks, submitAnswer, afterAll, IsSeen, IsNew, totalAnswer}
-use Rattle.ledger.specs.Calls.Laws.{report-refusing, submit-seen, submit-new, submit-keeps, submit-enters, submit-length, submit-sound, submit-taken, submit-known, total-sum}
+use Rattle.ledger.specs.Calls.Laws.{report-refusing, good-keys, submit-seen, submit-new, submit-keeps, submit-enters, submit-length, submit-sound, submit-taken, submit-known, total-sum}
 use Rattle.ledger.specs.Counted.{Count, nothing, isAmong, isGood, takes, withOne, countFrom, takenIn, counted}
 use Rattle.ledger.specs.declared.records.Record.{Record}
 use Rattle.ledger.specs.declared.answers.Answer.the-variants.{New, Seen}
@@ -162,3 +164,22 @@ seen-stays rs x xs e = retry-stays rs x x xs e refl (submit-seen rs x .0 e .good
 pub seen-later : (rs : List Record) (x : Submission) (xs : List Submission)
     → submitAnswer rs x .0 ≡ New → submitAnswer (afterAll xs (submitAnswer rs x .1)) x .0 ≡ Seen
 seen-later rs x xs e = retry-later rs x x xs e refl (submit-new rs x .0 e .good)
+
+-- a submission whose report or keys are refused counts nothing, wherever it stands
+pub refused-uncounted : (n : ℕ) (x : Submission) (xs ys : List Submission) → isGood x ≡ false → counted n (xs ++ (x ∷ ys)) ≡ counted n (xs ++ ys)
+unfolding counted countFrom
+refused-uncounted n x xs ys g = ap (λ (c : Count). c .sum) (passed-over xs nothing)
+  where
+    passed-over : (xs : List Submission) (c : Count) → countFrom n c (xs ++ (x ∷ ys)) ≡ countFrom n c (xs ++ ys)
+    passed-over [] c =
+        let taken : takes n c x ≡ false = rw g in
+        ap (λ (b : Bool). countFrom n (cond b (withOne c x) c) ys) taken
+    passed-over (y ∷ xs) c = passed-over xs (cond (takes n c y) (withOne c y) c)
+
+-- so one with a key of fewer than 16 bytes counts nothing
+pub short-uncounted : (n : ℕ) (x : Submission) (xs ys : List Submission) → (length (x .tagKey) < 16) ⊎ (length (x .fingerprintKey) < 16)
+    → counted n (xs ++ (x ∷ ys)) ≡ counted n (xs ++ ys)
+short-uncounted n x xs ys short =
+    refused-uncounted n x xs ys (refuted (isGood x) (λ g.
+    let (tag, fingerprint) = good-keys x (done-passes (reportChecks x) (report-refusing x) (eqb-true (firstFailing (reportChecks x)) done g)) in
+    ⊎-elim (λ l. omega arith) (λ l. omega arith) short))

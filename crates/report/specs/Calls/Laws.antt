@@ -8,7 +8,7 @@ use Prim.Native.Nat.{ℕ, zero, suc, _+_, _*_, _≤_, _<_}
 use native.Mathlib.Decide.{ℕ-discrete, decLt}
 use native.Mathlib.Numerals.{add-one}
 use native.Mathlib.Omega.{arith}
-use lib.Dec.{ltb, eqb}
+use lib.Dec.{leb, ltb, eqb}
 use lib.ListN.{length, take, drop, getD, length-drop}
 use lib.Seq.{length-take-le, drop-drop, getD-drop}
 use borrow.Author.Tests.{leb-true, le-leb, lt-leb, le-ltb, lt-ltb, eqb-true, eq-eqb, ne-eqb}
@@ -21,11 +21,11 @@ use Rattle.algorithm.specs.declared.hashes.Hash.the-variants.{Sha256, Sha512}
 use Rattle.algorithm.specs.declared.hashes.Named.the-variants.{Is, Unknown}
 use Rattle.algorithm.specs.Hashes.{names, hashOf, sizeOf, allowed}
 use Rattle.algorithm.specs.Hashes.Laws.{unknown, known}
-use Rattle.algorithm.specs.Refusals.{done, tagDiffers, unknownHash, keyTooLong, wrongSize, prkTooShort, noSuchSite, mostBytes}
+use Rattle.algorithm.specs.Refusals.{done, tagDiffers, unknownHash, keyTooLong, keyTooShort, wrongSize, prkTooShort, noSuchSite, mostBytes}
 use Rattle.algorithm.specs.Checks.{Check, check, firstFailing, Pass, Refusing, Fail, written}
 use Rattle.algorithm.specs.Checks.Pass.{all, and}
 use Rattle.algorithm.specs.Checks.Refusing.{none}
-use Rattle.algorithm.specs.Checks.Laws.{exactly, exactly-done, done-passes, refuses, pass-append, append-refuses, append-passes, refusing-append, answered-refused, answered-done}
+use Rattle.algorithm.specs.Checks.Laws.{exactly, exactly-done, done-passes, refuses, pass-append, other-number, append-refuses, append-passes, refusing-append, answered-refused, answered-done}
 use Rattle.hmac.specs.Hmac.{tagOf}
 use Rattle.hmac.specs.Calls.{compareChecks}
 use Rattle.hmac.specs.Calls.Laws.{compared-done}
@@ -73,16 +73,36 @@ fingerprint-allowed n = asked (eqb n 2)
     asked true = refl
     asked false = refl
 
--- a key that passes its checks
+-- a report's key: what its checks say on both sides of each limit
 module _ (key : List ℕ) where
   pub key-refusing : Refusing (keyChecks key)
-  key-refusing = refuses _ _ none
+  key-refusing = refuses _ _ (refuses _ _ none)
+
+  pub key-accepted : 16 ≤ length key → length key ≤ mostBytes → firstFailing (keyChecks key) ≡ done
+  key-accepted k l = rw (le-leb (length key) mostBytes l, le-leb 16 (length key) k)
+
+  pub key-too-long : mostBytes < length key → firstFailing (keyChecks key) ≡ keyTooLong
+  key-too-long l = rw (lt-leb (length key) mostBytes l)
+
+  pub key-too-short : firstFailing (keyChecks key) ≡ keyTooShort ↔ length key < 16
+  key-too-short = (
+    λ e. elim (decLt (length key) 16) [
+      | yes l ↦ l
+      | no z ↦ absurd (other-number (check (leb (length key) mostBytes) keyTooLong) [] keyTooShort (λ z. omega arith) (λ z. omega arith) (rw (le-leb 16 (length key) (omega arith)) at e))
+    ],
+    λ l. rw (le-leb (length key) mostBytes (omega arith), lt-leb 16 (length key) l),
+  )
+
+  pub key-parts : Pass (keyChecks key) → (length key ≤ mostBytes) × (16 ≤ length key)
+  key-parts (and l (and k all)) = (leb-true (length key) mostBytes l, leb-true 16 (length key) k)
 
   pub key-fits : firstFailing (keyChecks key) ≡ done → length key ≤ mostBytes
-  key-fits e = fits (done-passes (keyChecks key) key-refusing e)
-    where
-      fits : Pass (keyChecks key) → length key ≤ mostBytes
-      fits (and l all) = leb-true (length key) mostBytes l
+  key-fits e = key-parts (done-passes (keyChecks key) key-refusing e) .0
+
+-- no check of a report's tag that fails has the number of a call that is done
+pub tag-refusing : (s key : List ℕ) → Refusing (tagChecks s key)
+tag-refusing s key =
+    refusing-append (readChecks s) _ (read-refusing s) (refusing-append (keyChecks key) _ (key-refusing key) (refuses _ _ none))
 
 -- what is checked after reading and the key decides where both pass
 keyed-then : (s key : List ℕ) → Passed s → firstFailing (keyChecks key) ≡ done → (cs : List Check)
@@ -475,9 +495,7 @@ label-done s place = exactly-done (placeChecks s place) (place-refusing s place)
 
 pub check-done : (s key : List ℕ) → checkAnswer s key ≡ done ↔ Pass (tagChecks s key)
 unfolding checkAnswer
-check-done s key =
-    exactly-done (tagChecks s key)
-    (refusing-append (readChecks s) _ (read-refusing s) (refusing-append (keyChecks key) _ (key-refusing key) (refuses _ _ none)))
+check-done s key = exactly-done (tagChecks s key) (tag-refusing s key)
 
 pub fingerprint-done : (s key out : List ℕ) → fingerprintAnswer s key out .0 ≡ done ↔ Pass (fingerprintChecks s key out)
 unfolding fingerprintAnswer

@@ -24,7 +24,7 @@ use Rattle.algorithm.specs.Checks.Refusing.{none, more}
 use Rattle.algorithm.specs.Checks.Laws.{done-passes, refuses}
 use Rattle.report.specs.Layout.{Site, siteBytes, sitesBytes, bytesOf, tagSize, smallestReport, largestReport, liveOf}
 use Rattle.report.specs.Reading.{hashNamed, tagSizeIn, tagStart, beforeTag, firstSite, withSite, readSites, sitesIn, sitesChecks, readChecks, fieldsOf, readOf, WellFormed}
-use Rattle.report.specs.Inside.{First, afterAttempt, Passed}
+use Rattle.report.specs.Inside.{First, afterAttempt, Passed, numbersAtMost}
 
 -- a report's tag is half a digest of its hash, 16 bytes at least and 32 at most
 pub tag-half : (n : ℕ) → 2 * tagSize n ≡ sizeOf (hashNamed n)
@@ -117,6 +117,35 @@ sites-refusing w = more (eqb-false (w .0) done) (refuses _ _ none)
 
 pub read-refusing : (s : List ℕ) → Refusing (readChecks s)
 read-refusing s = refuses _ _ (refuses _ _ (refuses _ _ (refuses _ _ (refuses _ _ (refuses _ _ (sites-refusing (sitesIn s)))))))
+
+-- where no check has a number over this one, no number over it comes back
+pub at-most : (most : ℕ) (cs : List Check) → numbersAtMost most cs ≡ true → firstFailing cs ≤ most
+at-most most [] e = omega arith
+at-most most (c ∷ cs) e =
+    let p = and-parts (leb (c .number) most) (numbersAtMost most cs) e in
+    either (c .passes) (leb-true (c .number) most (p .0)) (at-most most cs (p .1))
+  where
+    either : (b : Bool) → c .number ≤ most → firstFailing cs ≤ most → cond b (firstFailing cs) (c .number) ≤ most
+    either true k l = l
+    either false k l = k
+
+-- no number of reading is over 16
+sites-read-most : (n : ℕ) (l : List ℕ) → readSites n l .0 ≤ 16
+unfolding readSites
+sites-read-most zero [] = omega arith
+sites-read-most zero (x ∷ l) = omega arith
+sites-read-most (suc n) [] = omega arith
+sites-read-most (suc n) (size ∷ l) =
+    either (leb 1 size && leb size 48) (leb (size + 12) (length l)) (readSites n (drop (size + 12) l)) (sites-read-most n (drop (size + 12) l))
+  where
+    either : (a b : Bool) (w : ℕ × List Site) → w .0 ≤ 16
+        → cond a (cond b (withSite (firstSite size l) w) (sitesMisplaced, [])) (labelLengthOutOfRange, []) .0 ≤ 16
+    either true true w k = k
+    either true false w k = omega arith
+    either false b w k = omega arith
+
+pub read-most : (s : List ℕ) → firstFailing (readChecks s) ≤ 16
+read-most s = at-most 16 (readChecks s) (rw (le-leb (sitesIn s .0) 16 (sites-read-most (numberAt s 43 2) (drop 45 (beforeTag s)))))
 
 module _ (s : List ℕ) where
   -- each check that passes says its part

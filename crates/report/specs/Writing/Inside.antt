@@ -54,7 +54,7 @@ planOf n c = record {
   «tag_size» = decided (planChecks n c) (tagSize n) 0;
 }
 
--- the last two checks: the number of a key that is refused, then that of a buffer that is too short
+-- the last checks: the number of a key that is refused, then that of a buffer that is too short
 abbrev pub lastOf : ℕ → Bool → Bool → ℕ
 lastOf number refused short = cond refused number (cond short bufferTooShort done)
 

@@ -11,13 +11,12 @@ use borrow.Author.Tests.{eqb-true, eqb-false}
 use denote.Ref.{now}
 use Rattle.algorithm.specs.Refusals.{done}
 use Rattle.algorithm.specs.Checks.{firstFailing}
-use Rattle.algorithm.specs.Checks.Refusing.{none}
-use Rattle.algorithm.specs.Checks.Laws.{passes-done, fails-number, refuses, refusing-append, append-refuses, append-passes, pass-append, refused-given, done-work}
+use Rattle.algorithm.specs.Checks.Laws.{passes-done, fails-number, append-refuses, append-passes, pass-append, refused-given, done-work}
 use Rattle.report.specs.Reading.{readChecks}
-use Rattle.report.specs.Reading.Laws.{read-refusing, passed}
+use Rattle.report.specs.Reading.Laws.{passed}
 use Rattle.report.specs.declared.reading.Reading.{Reading}
 use Rattle.report.specs.Calls.{keyChecks, tagChecks, checkAnswer, fingerprintAnswer}
-use Rattle.report.specs.Calls.Laws.{key-refusing, check-exactly, check-done, fingerprint-key, fingerprint-accepted, read-passes}
+use Rattle.report.specs.Calls.Laws.{tag-refusing, check-exactly, check-done, fingerprint-key, fingerprint-accepted, read-passes}
 use Rattle.ledger.specs.Records.{zeroRecord}
 use Rattle.ledger.specs.Calls.{Submission, submission, fingerprintIn, liveIn, recordOf, reportChecks}
 use Rattle.ledger.specs.Inside.{refusedOne, acceptedOne, judgedOf}
@@ -56,8 +55,7 @@ module _ (s tagKey fingerprintKey : List ℕ) where
 
     then-key : firstFailing (reportChecks x) ≡ firstFailing (keyChecks fingerprintKey)
     then-key =
-        append-passes (tagChecks s tagKey) (keyChecks fingerprintKey) (sym tag-number ∙ d)
-        (refusing-append (readChecks s) _ (read-refusing s) (refusing-append (keyChecks tagKey) _ (key-refusing tagKey) (refuses _ _ none)))
+        append-passes (tagChecks s tagKey) (keyChecks fingerprintKey) (sym tag-number ∙ d) (tag-refusing s tagKey)
 
     module _ (out : List ℕ) (size : length out ≡ 32) where
       key-number : fingerprintAnswer s fingerprintKey out .0 ≡ firstFailing (keyChecks fingerprintKey)

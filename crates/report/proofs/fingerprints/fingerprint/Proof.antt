@@ -1,4 +1,4 @@
--- `report::fingerprints::fingerprint`: reading, the key's check, the output's, then the tag of both pieces. Assumes nothing.
+-- `report::fingerprints::fingerprint`: reading, the key's checks, the output's, then the tag of both pieces. Assumes nothing.
 use mathlib.Core.Path.{_≡_, sym, ap, _∙_}
 use mathlib.Core.List.{List, _++_}
 use Prim.Native.Nat.{ℕ, _-_}

@@ -1,4 +1,4 @@
--- `report::tags::check`: reading, the key's check, then the tag. Assumes nothing.
+-- `report::tags::check`: reading, the key's checks, then the tag. Assumes nothing.
 use mathlib.Core.Path.{_≡_, refl, sym, ap, _∙_}
 use mathlib.Core.Bool.{true, cond}
 use mathlib.Core.List.{List}

@@ -1,4 +1,4 @@
--- `report::writing::write`: the plan, the last two checks, then the report. Assumes nothing.
+-- `report::writing::write`: the plan, the last checks, then the report. Assumes nothing.
 use native.Mathlib.Omega.{arith}
 use borrow.Author.Needs.{needs}
 use denote.Ref.{now}
