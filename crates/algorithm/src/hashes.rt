@@ -1,14 +1,14 @@
 // The hashes that we make: their numbers and their sizes.
 ghost use Rattle.algorithm.specs.Calls.{WhichOutcome, BlockSizeOutcome, DigestSizeOutcome, ShortestTagOutcome};
 
-#[derive(Drop)]
+#[derive(Clone, Copy)]
 pub enum Hash {
     Sha256,
     Sha512,
 }
 
 // What a number names.
-#[derive(Drop)]
+#[derive(Clone, Copy)]
 pub enum Named {
     Is(Hash),
     Unknown,

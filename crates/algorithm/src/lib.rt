@@ -1,4 +1,6 @@
 // The hashes that we make, the numbers that come back, and the limits that several layers share.
+#![tactic(auto)]
+
 mod hashes;
 mod refusals;
 

@@ -1,1 +1,3 @@
 // What the parts add up to: theorems alone, in specs/.
+#![tactic(auto)]
+

@@ -1,4 +1,6 @@
 // SHA-256 and SHA-512 (FIPS 180-4), in one piece and in pieces.
+#![tactic(auto)]
+
 mod blocks;
 mod ending;
 mod narrow;

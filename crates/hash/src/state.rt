@@ -9,7 +9,7 @@ pub const LARGEST_BLOCK: usize = 128;
 
 // The hash that it was made for, the chaining words, how many bytes it took, and those of them that wait for a full block, with
 // zeros after them. A block of either hash fits the waiting array.
-#[derive(Drop)]
+#[derive(Clone, Copy)]
 pub struct State {
     pub hash: Hash,
     pub words: [u64; 8],
@@ -18,14 +18,14 @@ pub struct State {
 }
 
 // What a start answers.
-#[derive(Drop)]
+#[derive(Clone, Copy)]
 pub struct Started {
     pub number: u32,
     pub state: State,
 }
 
 // What a piece leads to.
-#[derive(Drop)]
+#[derive(Clone, Copy)]
 pub struct Fed {
     pub number: u32,
     pub state: State,

@@ -19,7 +19,7 @@ const BLOCK: usize = 16 * WORD;
 
 // How far the rounds of a block have come: the eight working variables, a to h in the standard, and the ring, which holds the words
 // of the schedule for the next sixteen rounds, the nearest first.
-#[derive(Drop)]
+#[derive(Clone, Copy)]
 struct Progress {
     variables: [u64; 8],
     ring: [u64; 16],

@@ -4,7 +4,7 @@ ghost use Rattle.hash.specs.Description.{describe, core_of};
 
 use algorithm::Hash;
 
-#[derive(Drop)]
+#[derive(Clone, Copy)]
 pub enum Width {
     // Words of 32 bits.
     Narrow,

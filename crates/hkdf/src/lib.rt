@@ -1,4 +1,6 @@
 // HKDF (RFC 5869) over the tags of the HMAC layer: extract and expand.
+#![tactic(auto)]
+
 mod expanding;
 mod extracting;
 

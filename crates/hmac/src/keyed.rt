@@ -7,7 +7,7 @@ use hash::{LARGEST_BLOCK, State};
 
 // The hash and the length of the tag that it was made for; the inner hash at work, of which the first block counts; and the outer
 // words, which have taken their block and nothing more.
-#[derive(Drop)]
+#[derive(Clone, Copy)]
 pub struct Keyed {
     pub hash: Hash,
     pub tag_length: usize,
@@ -18,14 +18,14 @@ pub struct Keyed {
 }
 
 // What a keyed start answers.
-#[derive(Drop)]
+#[derive(Clone, Copy)]
 pub struct Started {
     pub number: u32,
     pub keyed: Keyed,
 }
 
 // What a piece leads to.
-#[derive(Drop)]
+#[derive(Clone, Copy)]
 pub struct Fed {
     pub number: u32,
     pub keyed: Keyed,

@@ -1,4 +1,6 @@
 // HMAC (FIPS 198-1) over the hashes that we make: tags in one piece and in pieces, and their comparison.
+#![tactic(auto)]
+
 mod ending;
 mod form;
 mod keyed;

@@ -10,7 +10,7 @@ use report::LARGEST_REPORT;
 const COUNT: usize = 4;
 
 // What stands next in a capture.
-#[derive(Drop)]
+#[derive(Clone, Copy)]
 pub enum Found {
     // A report of so many bytes, at the start of the space.
     Report(usize),

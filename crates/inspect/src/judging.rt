@@ -6,7 +6,7 @@ ghost use Rattle.inspect.specs.Judging.{verdict_under, fingerprint_under, verdic
 use report::Reading;
 
 // The number of the tag's check, or the one that refuses the PRK; and the fingerprint, zeros where the PRK is refused.
-#[derive(Drop)]
+#[derive(Clone, Copy)]
 pub struct Judged {
     pub number: u32,
     pub fingerprint: [u8; 32],

@@ -1,5 +1,7 @@
 // `inspect CAPTURE PRK`: the reports of a capture, one line for each, judged under the keys that come of the PRK; then totals, and a
 // last line that says how the inspection ended.
+#![tactic(auto)]
+
 mod capture;
 mod ending;
 mod files;

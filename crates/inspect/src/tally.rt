@@ -10,7 +10,7 @@ use octets::Sum;
 pub(crate) const MOST_REPORTS: u64 = 4503599627370496;
 
 // The place after the last report, the reports, how many of them have which verdict, and the live bytes of those whose tag matches.
-#[derive(Drop)]
+#[derive(Clone, Copy)]
 pub struct Tally {
     pub at: u64,
     pub reports: u64,

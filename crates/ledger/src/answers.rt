@@ -2,7 +2,7 @@
 ghost use Rattle.ledger.specs.Calls.{AnswerNumberOutcome, AnswerSeenOutcome};
 
 // New and entered, seen before, or refused with its number.
-#[derive(Drop)]
+#[derive(Clone, Copy)]
 pub enum Answer {
     New,
     Seen,

@@ -8,7 +8,7 @@ use crate::records::{Record, zero_record};
 use crate::surveying::Tally;
 
 // The answer, and whether, where and what to write.
-#[derive(Drop)]
+#[derive(Clone, Copy)]
 pub(crate) struct Verdict {
     pub answer: Answer,
     pub writes: bool,

@@ -6,7 +6,7 @@ use crate::records::{Record, zero_record};
 use crate::surveying::{Tally, is_sound};
 
 // The number of the first check that fails, and the record of a report that passes all of them.
-#[derive(Drop)]
+#[derive(Clone, Copy)]
 pub(crate) struct Judged {
     pub number: u32,
     pub new_record: Record,

@@ -1,4 +1,6 @@
 // A ledger: records lent by the host, in which each report is counted once, however often it is submitted.
+#![tactic(auto)]
+
 mod answers;
 mod deciding;
 mod entering;

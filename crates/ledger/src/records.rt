@@ -6,7 +6,7 @@ ghost use Rattle.ledger.specs.Inside.{four_bytes, first_word};
 
 // A record as C lays it out: 48 bytes and no padding. It is used where `in_use` is 1 and free otherwise.
 #[repr(C)]
-#[derive(Drop)]
+#[derive(Clone, Copy)]
 pub struct Record {
     pub fingerprint: [u8; 32],
     pub live: u64,

@@ -9,7 +9,7 @@ use octets::Sum;
 
 // What is known of the records so far: whether they are in order, that is used before free, free ones all zero and no fingerprint
 // twice; whether a free one was met; how many are used; and the sum of their live bytes.
-#[derive(Drop)]
+#[derive(Clone, Copy)]
 pub(crate) struct Tally {
     pub ordered: bool,
     pub free: bool,

@@ -7,7 +7,7 @@ use crate::records::Record;
 use crate::surveying::{Tally, is_sound, survey};
 
 // The number, and the sum of the used records' live bytes, which is 0 where the call is refused.
-#[derive(Drop)]
+#[derive(Clone, Copy)]
 pub struct Summed {
     pub number: u32,
     pub total: u64,

@@ -1,4 +1,6 @@
 // Bytes: copying, comparing, the test for zeros; and numbers: their bytes, copying them, and their sum. Every function is total.
+#![tactic(auto)]
+
 mod compare;
 mod copy;
 mod numbers;

@@ -5,7 +5,7 @@ ghost use Rattle.octets.specs.Calls.{PlusOutcome};
 const LARGEST_TOTAL: u64 = 18446744073709551615;
 
 // The total, and whether it passed the largest: then it is 0.
-#[derive(Drop)]
+#[derive(Clone, Copy)]
 pub struct Sum {
     pub over: bool,
     pub total: u64,

@@ -27,7 +27,7 @@ fn check_start(report: &[u8]) -> u32
 }
 
 // What the checks before the sites say: the number, and where the tag starts.
-#[derive(Drop)]
+#[derive(Clone, Copy)]
 pub struct Head {
     pub number: u32,
     pub end: usize,
@@ -67,7 +67,7 @@ fn check_head(report: &[u8]) -> Head
 
 // What all checks say: the number, and of a report that they let pass its hash's number, where its tag starts, how many sites it has
 // and the sum of their live bytes.
-#[derive(Drop)]
+#[derive(Clone, Copy)]
 pub struct Checked {
     pub number: u32,
     pub hash: u32,

@@ -1,4 +1,6 @@
 // Leak reports: reading and writing them, their sites, their tag and fingerprint, and the two keys of a machine.
+#![tactic(auto)]
+
 mod checks;
 mod columns;
 mod derivation;

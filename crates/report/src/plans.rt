@@ -8,7 +8,7 @@ use crate::format::{BESIDE_LABEL, HEAD, hash_named, tag_size};
 use algorithm::Named;
 
 // The number, and of a report that is not refused how many bytes stand before its tag and how many the tag has.
-#[derive(Drop)]
+#[derive(Clone, Copy)]
 pub struct Plan {
     pub number: u32,
     pub body_size: usize,

@@ -7,7 +7,7 @@ use crate::checks::check_report;
 use crate::numbers::number_at;
 
 // The number that refuses a report, and else its fields, with the sum of live bytes.
-#[derive(Drop)]
+#[derive(Clone, Copy)]
 pub struct Reading {
     pub number: u32,
     pub count: u32,

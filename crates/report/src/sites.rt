@@ -9,7 +9,7 @@ use crate::numbers::number_at;
 
 // The number that refuses a place, and else the site there: where its label starts in the report, how long the label is, live bytes
 // and live blocks.
-#[derive(Drop)]
+#[derive(Clone, Copy)]
 pub struct SiteAt {
     pub number: u32,
     pub start: usize,

@@ -7,7 +7,7 @@ use crate::numbers::number_at;
 use octets::Sum;
 
 // One site: the number that refuses it, where the next one starts, and its live bytes.
-#[derive(Drop)]
+#[derive(Clone, Copy)]
 pub struct Step {
     pub number: u32,
     pub next: usize,
@@ -50,7 +50,7 @@ fn pass_site(body: &[u8], at: usize) -> Step
 }
 
 // The number that refuses the sites, and else the sum of their live bytes.
-#[derive(Drop)]
+#[derive(Clone, Copy)]
 pub struct Counted {
     pub number: u32,
     pub live: u64,

@@ -10,7 +10,7 @@ use crate::plans::make_plan;
 
 // The fields before the sites that are the caller's to say; the call makes the count, the version and the number of sites itself.
 // `hash` is wider than on the wire, so that a larger number is refused and never cut.
-#[derive(Drop)]
+#[derive(Clone, Copy)]
 pub struct Heading {
     pub hash: u32,
     pub tenant: u32,
@@ -22,7 +22,7 @@ pub struct Heading {
 }
 
 // The number, and how many bytes the report has: 0 where it is refused.
-#[derive(Drop)]
+#[derive(Clone, Copy)]
 pub struct Written {
     pub number: u32,
     pub length: usize,

@@ -3,7 +3,7 @@ use crate::say;
 use ledger::{Answer, Record};
 
 // What a submission answers, and the records after it.
-#[derive(Drop)]
+#[derive(Clone, Copy)]
 struct Submitted {
     answer: Answer,
     records: [Record; 1],

@@ -1,5 +1,7 @@
 // The calls on reports, on the cases in the file `stdin` beside, one line a call. What it must write is the file `stdout`. Both are
 // made by tests/reports.py, which says in its first lines how a case is written.
+#![tactic(auto)]
+
 mod again;
 mod calls;
 mod input;

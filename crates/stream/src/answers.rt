@@ -5,14 +5,14 @@ ghost use Rattle.stream.specs.Calls.{refused_fed, more_fed, closing_fed, AnswerN
 
 // How many bytes are collected of the report on its way, and whether the stream is closed: 0 where it is open. Before the first feed
 // both are 0.
-#[derive(Drop)]
+#[derive(Clone, Copy)]
 pub struct State {
     pub collected: usize,
     pub closed: u32,
 }
 
 // More bytes are wanted; a whole report that the plain reader lets pass; or refused with its number, as a whole report may be too.
-#[derive(Drop)]
+#[derive(Clone, Copy)]
 pub enum Answer {
     More,
     Whole,
@@ -21,7 +21,7 @@ pub enum Answer {
 
 // The answer, how many bytes of the piece were used, the length of the whole report in the buffer, one that the reader refuses too, and
 // the state for the next feed.
-#[derive(Drop)]
+#[derive(Clone, Copy)]
 pub struct Fed {
     pub answer: Answer,
     pub used: usize,

@@ -1,4 +1,6 @@
 // Reports that arrive in pieces of any size: collected in a lent buffer, and read as soon as one is whole.
+#![tactic(auto)]
+
 mod answers;
 mod feeding;
 mod taking;

@@ -1,4 +1,6 @@
 // What C calls: each export is one call of a layer and carries that call's promise. include/tirmuzzle.h declares them.
+#![tactic(auto)]
+
 ghost use Rattle.hash.specs.Calls.{DigestOutcome};
 ghost use Rattle.hmac.specs.Calls.{TagMessageOutcome, VerifyMessageOutcome};
 ghost use Rattle.hkdf.specs.Calls.{ExtractOutcome, ExpandOutcome};
