@@ -6,7 +6,6 @@ use Prim.Native.Nat.{ℕ, ◌+◌, ◌≤◌}
 use native.Mathlib.Omega.{arith}
 use lib.ListN.{length, take}
 use lib.Seq.{length-take-le}
-use borrow.Author.Rules.{rules}
 use Rattle.algorithm.specs.Hashes.{size_of}
 use Rattle.algorithm.specs.Hashes.Laws.{block_most, digest_most}
 use Rattle.algorithm.specs.Refusals.{most_bytes}
@@ -23,8 +22,7 @@ use Rattle.hmac.specs.Keyed.Open.{full_is}
 use Rattle.hmac.specs.declared.keyed.Keyed.{Keyed}
 use Rattle.hmac.proofs.Typed.{typed_held}
 use Rattle.octets.specs.Zeros.Laws.{take_whole}
-use Rattle.hmac.proofs.tags.full.Statement.{statement}
-use Rattle.hmac.proofs.tags.full.Tie as tie
+use Rattle.hmac.proofs.tags.full.Goals as goal
 
 -- what update handed back: the outer hash after the inner digest
 module _ (k : Keyed) (h : HeldKeyed k) {inner outer : State} {d : List ℕ} {size : ℕ} {f : Fed} (ei : inner ≡ inner_of k) (eo : outer ≡ outer_of k)
@@ -48,41 +46,33 @@ module _ (k : Keyed) (h : HeldKeyed k) {inner outer : State} {d : List ℕ} {siz
   full_end : zeros_to 64 (end_of f.state) ≡ zeros_to 64 (full_tag k)
   full_end = ap (λ (s : State). zeros_to 64 (end_of s)) last_is ∙ ap (zeros_to 64) (sym (full_is k))
 
-ended-requires : tie.Need-ended-requires
-ended-requires c κs = rw c.inner.ensures (sound_inner c.before.args.keyed c.before.requires)
+pub ended-digest-requires : goal.ended-digest-requires
+ended-digest-requires c = rw c.inner-inner.ensures (sound_inner c.args.keyed c.requires)
 
-array-share-prefix-digest : tie.Need-array-share-prefix-digest
-array-share-prefix-digest c =
-    let l : length c.before.before.ended.result ≡ 64 = c.before.before.ended.type-inv.1.0.1 in
-    omega (arith, c.digest-size.ensures, digest_most c.before.before.before.before.args.keyed.hash)
+pub slice_bounds-digest-end : goal.slice_bounds-digest-end
+slice_bounds-digest-end c =
+    let l : length c.ended-digest.result ≡ 64 = c.ended-digest.type_inv.1.0.1 in
+    omega (arith, c.digest_size-size.ensures, digest_most c.args.keyed.hash)
 
-slice-aggregate-update : tie.Need-slice-aggregate-update
-slice-aggregate-update c =
-    let l : length c.before.before.before.ended.result ≡ 64 = c.before.before.before.ended.type-inv.1.0.1 in
-    sym (length-take-le c.before.digest-size.result c.before.before.before.ended.result
-    (omega (arith, c.before.digest-size.ensures, digest_most c.before.before.before.before.before.args.keyed.hash)))
+pub slice_bounds-update-end : goal.slice_bounds-update-end
+slice_bounds-update-end c =
+    let l : length c.ended-digest.result ≡ 64 = c.ended-digest.type_inv.1.0.1 in
+    sym (length-take-le c.digest_size-size.result c.ended-digest.result
+    (omega (arith, c.digest_size-size.ensures, digest_most c.args.keyed.hash)))
 
-ended-requires-2 : tie.Need-ended-requires-2
-ended-requires-2 c κs =
-    let start = c.before.before.before.before.before.before.before in
-    let k = start.args.keyed in
+pub ended-requires : goal.ended-requires
+ended-requires c =
+    let k = c.args.keyed in
     last_sound k
-    (typed_held k start.well-formed.0.1.1.1.1.0.1.0.1 start.well-formed.0.1.1.1.1.1.1.0.1.0.1 start.well-formed.0.1.1.1.1.1.1.1.0.1.0.1 start.requires)
-    c.before.before.before.before.before.before.inner.ensures c.before.before.before.before.outer.ensures
-    c.before.before.before.before.before.ended.ensures c.before.before.before.digest-size.ensures c.before.update.ensures
+    (typed_held k c.well_formed.0.1.1.1.1.0.1.0.1 c.well_formed.0.1.1.1.1.1.1.0.1.0.1 c.well_formed.0.1.1.1.1.1.1.1.0.1.0.1 c.requires)
+    c.inner-inner.ensures c.outer-outer.ensures
+    c.ended-digest.ensures c.digest_size-size.ensures c.update-fed.ensures
 
-returns : tie.Need-returns
+pub returns : goal.returns
 returns c =
-    let start = c.before.before.before.before.before.before.before.before in
-    let k = start.args.keyed in
-    c.ended2.ensures
+    let k = c.args.keyed in
+    c.ended.ensures
     ∙ full_end k
-    (typed_held k start.well-formed.0.1.1.1.1.0.1.0.1 start.well-formed.0.1.1.1.1.1.1.0.1.0.1 start.well-formed.0.1.1.1.1.1.1.1.0.1.0.1 start.requires)
-    c.before.before.before.before.before.before.before.inner.ensures c.before.before.before.before.before.outer.ensures
-    c.before.before.before.before.before.before.ended.ensures c.before.before.before.before.digest-size.ensures c.before.before.update.ensures
-
-pub full_spec : {M : Type 1} → statement M
-full_spec =
-    tie.close
-    (tie.spec (λ c κs. search rules) ended-requires (λ c κs. search rules) (λ c κs. search rules) array-share-prefix-digest slice-aggregate-update
-    (λ c κs. search rules) ended-requires-2 returns)
+    (typed_held k c.well_formed.0.1.1.1.1.0.1.0.1 c.well_formed.0.1.1.1.1.1.1.0.1.0.1 c.well_formed.0.1.1.1.1.1.1.1.0.1.0.1 c.requires)
+    c.inner-inner.ensures c.outer-outer.ensures
+    c.ended-digest.ensures c.digest_size-size.ensures c.update-fed.ensures

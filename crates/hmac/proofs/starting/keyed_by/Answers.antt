@@ -3,7 +3,6 @@ use mathlib.Core.Path.{◌≡◌, sym, ap, ◌∙◌}
 use mathlib.Core.List.{List}
 use Prim.Native.Nat.{ℕ}
 use lib.ListN.{take}
-use borrow.Author.Rules.{rules}
 use Rattle.algorithm.specs.Hashes.{block_of}
 use Rattle.hash.specs.State.{fresh_of, after_of}
 use Rattle.hash.specs.declared.state.State.{State}
@@ -13,16 +12,14 @@ use Rattle.hmac.specs.Keyed.{joined}
 use Rattle.hmac.specs.Keyed.Open.{fresh_is}
 use Rattle.octets.specs.Zeros.Laws.{take_whole}
 use Rattle.hmac.proofs.Buffers.{take_masked}
-use Rattle.hmac.proofs.starting.keyed_by.Statement.{statement}
-use Rattle.hmac.proofs.starting.keyed_by.Tie as tie
+use Rattle.hmac.proofs.starting.keyed_by.Goals as goal
 
-returns : tie.Need-returns
+pub returns : goal.returns
 unfolding inner_pad outer_pad
 returns c =
-    let start = c.before.before.before.before.before.before in
-    let h = start.args.hash in
-    let key = start.args.key.now in
-    let form = c.before.before.before.before.block-form in
+    let h = c.args.hash in
+    let key = c.args.key.now in
+    let form = c.block_form-form in
     let pad : (x : ℕ) → after_of (fresh_of h) (take (block_of h) (masked x form.result)) ≡ after_of (fresh_of h) (masked x (form_of h key)) =
     λ x.
     ap (after_of (fresh_of h))
@@ -31,10 +28,5 @@ returns c =
     ∙ ap (masked x) (take_whole 128 (block_of h) (form_of h key) (form_length h key)))
     in
     c.join.ensures
-    ∙ (λ i. joined ((c.before.before.before.after-pad.ensures ∙ pad 0x36) i) start.args.tag_length ((ap (λ (s : State). s.words) (c.before.before.after-pad2.ensures ∙ pad 0x5c)) i))
-    ∙ sym (fresh_is h key start.args.tag_length)
-
-pub keyed_by_spec : {M : Type 1} → statement M
-keyed_by_spec =
-    tie.close
-    (tie.spec (λ c κs. search rules) (λ c κs. search rules) (λ c κs. search rules) (λ c κs. search rules) returns)
+    ∙ (λ i. joined ((c.after_pad-inner.ensures ∙ pad 0x36) i) c.args.tag_length ((ap (λ (s : State). s.words) (c.after_pad-outer.ensures ∙ pad 0x5c)) i))
+    ∙ sym (fresh_is h key c.args.tag_length)
