@@ -4,7 +4,6 @@ use mathlib.Core.List.{List, [], ◌∷◌, ◌++◌}
 use Prim.Native.Nat.{ℕ, ◌+◌, ◌≤◌}
 use native.Mathlib.Omega.{arith}
 use lib.ListN.{length, replicate, length-append}
-use borrow.Author.Rules.{rules}
 use Rattle.octets.specs.Copy.{over}
 use Rattle.octets.specs.Zeros.{zeros_to}
 use Rattle.octets.specs.Zeros.Laws.{over_zeros}
@@ -16,8 +15,7 @@ use Rattle.hmac.specs.Pieces.Leads.{one, more}
 use Rattle.hmac.specs.Pieces.Laws.{leads_after, leads_held}
 use Rattle.hmac.specs.declared.keyed.Keyed.{Keyed}
 use Rattle.hkdf.specs.Inside.{Stretchable}
-use Rattle.hkdf.proofs.expanding.stretch.Statement.{statement}
-use Rattle.hkdf.proofs.expanding.stretch.Tie as tie
+use Rattle.hkdf.proofs.expanding.stretch.Goals as goal
 
 -- the keyed state that the last block, info and the counter lead to, and its tag
 module _ {k after : Keyed} (last info : List ℕ) (i : ℕ) (s : Stretchable k last info) (r : Leads k (last ++ (info ++ (i ∷ []))) after) where
@@ -32,28 +30,21 @@ module _ {k after : Keyed} (last info : List ℕ) (i : ℕ) (s : Stretchable k l
       over_zeros 64 (keyed_tag after) (omega (arith, keyed_tag_length after held, length_fits after held.sound))
       ∙ ap (λ (x : Keyed). zeros_to 64 (keyed_tag x)) (leads_after r s.held fits)
 
-tag-into-requires : tie.Need-tag-into-requires
-tag-into-requires c κs =
-    let start = c.before.before.before.before.before.before.before.before.before.before in
-    let last = start.args.last.now in
-    let info = start.args.info.now in
-    let leads = more last c.before.before.before.before.before.before.before.update.ensures
-    (more info c.before.before.before.before.before.update2.ensures (one c.before.before.update3.ensures))
+pub tag_into-requires : goal.tag_into-requires
+tag_into-requires c =
+    let last = c.args.last.now in
+    let info = c.args.info.now in
+    let leads = more last c.update-fed_last.ensures
+    (more info c.update-fed_info.ensures (one c.update-fed_counter.ensures))
     in
-    let after = held last info start.args.i start.requires leads in
-    (after, length_fits _ after.sound)
+    let after = held last info c.args.i c.requires leads in
+    record { held = after; room = length_fits _ after.sound }
 
-returns : tie.Need-returns
+pub returns : goal.returns
 returns c =
-    let start = c.before.before.before.before.before.before.before.before.before.before.before.before in
-    let last = start.args.last.now in
-    let info = start.args.info.now in
-    c.before.tag-into.ensures
-    ∙ block last info start.args.i start.requires
-    (more last c.before.before.before.before.before.before.before.before.before.update.ensures
-    (more info c.before.before.before.before.before.before.before.update2.ensures (one c.before.before.before.before.update3.ensures)))
-
-pub stretch_spec : {M : Type 1} → statement M
-stretch_spec =
-    tie.close
-    (tie.spec (λ c κs. search rules) (λ c κs. search rules) (λ c. search rules) (λ c κs. search rules) (λ c. search rules) tag-into-requires returns)
+    let last = c.args.last.now in
+    let info = c.args.info.now in
+    c.tag_into.ensures
+    ∙ block last info c.args.i c.requires
+    (more last c.update-fed_last.ensures
+    (more info c.update-fed_info.ensures (one c.update-fed_counter.ensures)))
