@@ -9,9 +9,9 @@ The first line of a file, Lib.antt apart, begins in one of three ways:
     -- Private:     what private functions ask and promise: it states no law either
     -- Proved:      laws with their proofs: it makes no public definition
 
-A law is known by its type, which ends in an equality, an equivalence, an order, an absurdity or a record of such facts, or by a hyphen in
-its name, which no definition has. Everything else with a type is a definition. The parts of a record or of a data type are no laws: they
-are what a definition says."""
+A law is known by its type, which ends in an equality or its contrary, an equivalence, an order, an absurdity, or the name of facts: of a
+predicate, which makes a type of its arguments, or of a record or data type whose parts state facts. Everything else with a type is a
+definition. The parts of a record or of a data type are no laws: they are what a definition says."""
 import pathlib
 import re
 import sys
@@ -20,7 +20,8 @@ ROOT = pathlib.Path(__file__).resolve().parent.parent
 KINDS = ("Believed", "Private", "Proved")
 PUBLIC_DEFINITION = re.compile(r"\s*(abbrev pub|unfoldable pub|pub record|pub data)\b")
 SIGNATURE = re.compile(r"(?:abbrev |unfoldable )?(?:pub )?(\S+)(?: \{[^}]*\}| \([^)]*\))* : (.*)")
-LAW = re.compile(r"[≡↔≤⊥]|(?<!\S)<(?!\S)")
+LAW = re.compile(r"[≡≢↔≤⊥]|(?<!\S)<(?!\S)")
+PART = re.compile(r"(?<=\s)(?:pub )?([^\W\d][\w']*) : ")
 
 
 def statements(text):
@@ -41,29 +42,49 @@ def statements(text):
     yield first, words
 
 
-def records_of_facts(texts):
-    """The names of the records and data types that state facts: those whose parts speak of an equality and the like."""
-    found = set()
+def end_of(type):
+    """What a type ends in."""
+    return type.rsplit("→", 1)[-1].strip()
+
+
+def is_predicate(type):
+    """Whether a type is a predicate's: that of what makes a type of its arguments."""
+    return "→" in type and end_of(type) == "Type 0"
+
+
+def states_fact(type, facts):
+    """Whether a type ends in a fact, for known names of facts. Before a name may stand the value that has it, as in `w.Held`."""
+    end = end_of(type)
+    return LAW.search(end) is not None or end.lstrip("(").split(" ")[0].rsplit(".", 1)[-1] in facts
+
+
+def names_of_facts(texts):
+    """The names of the predicates, and of the records and data types whose parts speak of facts."""
+    facts, parts = set(), {}
     for text in texts:
         for _, statement in statements(text):
             named = re.match(r"(?:pub )?(?:record|data) (\S+)(.*)", statement)
-            if named and LAW.search(named[2]):
-                found.add(named[1])
-    return found
+            if named:
+                pieces = PART.split(named[2])
+                parts[named[1]] = pieces[::2]
+                facts.update(name for name, type in zip(pieces[1::2], pieces[2::2]) if is_predicate(type))
+                facts.update([named[1]] if LAW.search(named[2]) or is_predicate(pieces[0].removesuffix(" where ")) else [])
+            elif (found := declared(statement)) and is_predicate(found[1]):
+                facts.add(found[0])
+    while more := {name for name in parts.keys() - facts if any(states_fact(type, facts) for type in parts[name])}:
+        facts |= more
+    return facts
 
 
 def declared(statement):
-    """The name and the end of the type that a statement declares, or None."""
+    """The name and the type that a statement declares, or None."""
     found = SIGNATURE.fullmatch(statement)
-    if not found or statement.startswith(("pub record ", "pub data ", "record ", "data ")):
-        return None
-    name, type = found.groups()
-    return name, type.rsplit("→", 1)[-1].strip()
+    return found.groups() if found and not statement.startswith(("pub record ", "pub data ", "record ", "data ")) else None
 
 
-def is_law(name, result, facts):
-    """Whether a declaration is a law."""
-    return not result.endswith("Type 0") and ("-" in name or LAW.search(result) is not None or result.split()[0] in facts)
+def is_law(type, facts):
+    """Whether a declaration of this type is a law."""
+    return not end_of(type).endswith("Type 0") and states_fact(type, facts)
 
 
 def faults(text, facts):
@@ -77,12 +98,12 @@ def faults(text, facts):
                 yield number, f"a proved file makes a public definition: {line.strip()}"
         for number, statement in statements(text):
             found = declared(statement)
-            if found and statement.startswith("pub ") and not is_law(*found, facts):
+            if found and statement.startswith("pub ") and not is_law(found[1], facts):
                 yield number, f"a proved file makes a public definition: {found[0]}"
     else:
         for number, statement in statements(text):
             found = declared(statement)
-            if found and is_law(*found, facts):
+            if found and is_law(found[1], facts):
                 yield number, f"a {kind.lower()} file states a law: {found[0]}"
 
 
@@ -92,7 +113,7 @@ def main(arguments):
     crates = pathlib.Path(arguments[0]) if arguments else ROOT / "crates"
     files = sorted(path for path in crates.glob("*/specs/**/*.antt") if path.name != "Lib.antt")
     texts = {path: path.read_text() for path in files}
-    facts = records_of_facts(texts.values())
+    facts = names_of_facts(texts.values())
     found = [f"{path.relative_to(crates.parent)}:{number}: {fault}" for path in files for number, fault in faults(texts[path], facts)]
     if found or not files:
         sys.exit("\n".join(found) or f"{crates} has no specs")
