@@ -1,6 +1,6 @@
 /* Calls the library from C on every case of a file that tests/outside/cases.py made, and compares the number, each byte of the
- * outputs and of what a call changes, and that the inputs are as they were. A report that was written is also read back and written
- * again, and a ledger that was submitted to is added up and, where the report counts, submitted to again.
+ * outputs and of the ledger, and that the inputs are as they were. A report that was written is also read back and written again, and
+ * a ledger that was submitted to is added up and, where the report counts, submitted to again.
  *
  *     caller FILE [--case N]
  *
@@ -18,16 +18,16 @@
 #include <sys/mman.h>
 #include <valgrind/valgrind.h>
 
-/* The buffers of a case: five inputs; what a call changes, which is the ledger that a report is submitted to, or the buffer of a stream
- * in the same place and the two numbers of its state; the output, and the numbers that a call answers beside its own. */
-enum { INPUTS = 5, LEDGER = INPUTS, COLLECTED, CLOSED, OUTPUT, BESIDE, LENGTH, BUFFERS };
+/* The buffers of a case: five inputs, the ledger that a report is submitted to, the output, and the number that a call answers beside
+ * its own. */
+enum { INPUTS = 5, LEDGER = INPUTS, OUTPUT, BESIDE, BUFFERS };
 enum { NUMBERS = 7, HEAD = 8 + 8 * NUMBERS, BUFFER_HEAD = 12, AROUND = 64, UNTOUCHABLE = 65536 };
 
 /* The calls in the order of cases.py. */
-enum { DIGEST, TAG, VERIFY, EXTRACT, EXPAND, FINGERPRINT, KEYS, CHECK, READ, SITE, WRITE, SUBMIT, TOTAL, FEED, CALLS };
+enum { DIGEST, TAG, VERIFY, EXTRACT, EXPAND, FINGERPRINT, KEYS, CHECK, READ, SITE, WRITE, SUBMIT, TOTAL, CALLS };
 static const char *const names[CALLS] = {
     "digest",       "tag",         "verify",      "extract",      "expand",        "report_fingerprint", "report_keys",
-    "report_check", "report_read", "report_site", "report_write", "ledger_submit", "ledger_total",       "stream_feed",
+    "report_check", "report_read", "report_site", "report_write", "ledger_submit", "ledger_total",
 };
 
 /* How memory is lent. */
@@ -37,8 +37,8 @@ static const char *const ways[WAYS] = {
 };
 
 /* A buffer as the file describes it: the bytes of an element, or 0 where the call has no such buffer, how many elements there are,
- * and the bytes that the file gives: of an input and of what a call changes all, of an output those that the call must write. Before
- * the call an input holds the same, what is changed other bytes, and an output nothing that the file gives. */
+ * and the bytes that the file gives: of an input and of a ledger all, of an output those that the call must write. Before the call an
+ * input holds the same, a ledger other bytes, and an output nothing that the file gives. */
 struct buffer {
     size_t size, count, given_length;
     const uint8_t *given, *before;
@@ -104,8 +104,8 @@ static void print_case(const char *what)
     fprintf(stderr, "\n");
     for (int i = 0; i < INPUTS && now.buffers[i].size > 0; i++)
         print_bytes("input", now.buffers[i].given, now.buffers[i].given_length);
-    for (int i = LEDGER; i < OUTPUT && now.buffers[i].size > 0; i++)
-        print_bytes("changed, before the call", now.buffers[i].before, now.buffers[i].given_length);
+    if (now.buffers[LEDGER].size > 0)
+        print_bytes("ledger before the call", now.buffers[LEDGER].before, now.buffers[LEDGER].given_length);
     fprintf(stderr, "  output of %lu places\n  expected answer: %lu\n", (unsigned long)now.buffers[OUTPUT].count,
             (unsigned long)now.answer);
 }
@@ -192,10 +192,7 @@ static uint32_t make_call(const struct lent *lent)
         return tirmuzzle_report_write(hash, (uint32_t)n[1], n[2], n[3], n[4], (uint8_t)n[5], n[6], a, a_count, b, b_count, c,
                                       c_count, d, d_count, e, e_count, out, out_count, beside);
     case SUBMIT: return tirmuzzle_ledger_submit(ledger, ledger_count, a, a_count, b, b_count, c, c_count, beside);
-    case TOTAL: return tirmuzzle_ledger_total(a, a_count, beside);
-    default:
-        return tirmuzzle_stream_feed((void *)lent[COLLECTED].start, (void *)lent[CLOSED].start, ledger, ledger_count, a, a_count,
-                                     beside, (void *)lent[LENGTH].start);
+    default: return tirmuzzle_ledger_total(a, a_count, beside);
     }
 }
 
@@ -318,11 +315,10 @@ static void run_case(void)
     const char *wrong = NULL;
     for (int i = 0; i < BUFFERS; i++) {
         if (!around_unchanged(&lent[i]))
-            wrong = i < INPUTS ? "bytes around an input were changed" : "bytes around another buffer were changed";
+            wrong = i < INPUTS ? "bytes around an input were changed" : "bytes around a ledger or an output were changed";
         if (!as_expected(&now.buffers[i], &lent[i]))
             wrong = i < INPUTS    ? "an input was changed"
-                    : i == LEDGER ? "another ledger, or another buffer of a stream"
-                    : i < OUTPUT  ? "another state of a stream"
+                    : i == LEDGER ? "another ledger"
                     : i == OUTPUT ? "another output"
                                   : "another number beside the answer";
     }
@@ -338,9 +334,9 @@ static void run_case(void)
         for (int i = LEDGER; i < BUFFERS; i++) {
             if (now.buffers[i].size == 0)
                 continue;
-            print_bytes(i < OUTPUT ? "changed, after the call" : "of the output, what must be written", now.buffers[i].given,
+            print_bytes(i == LEDGER ? "ledger after the call" : "of the output, what must be written", now.buffers[i].given,
                         now.buffers[i].given_length);
-            print_bytes("found", lent[i].start, lent[i].length);
+            print_bytes(i == LEDGER ? "found ledger" : "found output", lent[i].start, lent[i].length);
         }
         print_again();
         exit(1);
@@ -384,14 +380,13 @@ static uint8_t *read_case(uint8_t *at)
         buffer->size = (size_t)little(head, 4);
         buffer->count = (size_t)little(head + 4, 4);
         size_t length = buffer->size * buffer->count, in_file = buffer->size * (size_t)little(head + 8, 4);
-        int changed = i >= LEDGER && i < OUTPUT;
-        size_t whole = changed ? 2 * length : length;
-        require(i < OUTPUT ? in_file == whole : in_file <= whole, "the file gives a buffer wrongly");
+        size_t whole = i == LEDGER ? 2 * length : length;
+        require(i <= LEDGER ? in_file == whole : in_file <= whole, "the file gives a buffer wrongly");
         if (buffer->size > 1)
             turn_numbers(given, in_file, buffer->size);
-        buffer->before = i < OUTPUT ? given : NULL;
-        buffer->given = changed ? given + length : given;
-        buffer->given_length = changed ? length : in_file;
+        buffer->before = i <= LEDGER ? given : NULL;
+        buffer->given = i == LEDGER ? given + length : given;
+        buffer->given_length = i == LEDGER ? length : in_file;
         given += in_file;
     }
     return given;

@@ -1,6 +1,6 @@
 // Calls the library from Rust on every case of a file that tests/outside/cases.py made, by declarations of its own, and compares
-// the number, each byte of the outputs and of what a call changes, and that the inputs are as they were. A report that was written is
-// also read back and written again, and a ledger that was submitted to is added up and, where the report counts, submitted to again.
+// the number, each byte of the outputs and of the ledger, and that the inputs are as they were. A report that was written is also read
+// back and written again, and a ledger that was submitted to is added up and, where the report counts, submitted to again.
 //
 //     caller FILE [--case N]
 //
@@ -45,33 +45,27 @@ extern "C" {
                                tag_key: *const u8, tag_key_length: usize, fingerprint_key: *const u8,
                                fingerprint_key_length: usize, seen: *mut u32) -> u32;
     fn tirmuzzle_ledger_total(records: *const Record, records_count: usize, total: *mut u64) -> u32;
-    fn tirmuzzle_stream_feed(collected: *mut u64, closed: *mut u32, buffer: *mut u8, buffer_length: usize, piece: *const u8,
-                             piece_length: usize, used: *mut u64, length: *mut u64) -> u32;
 }
 
-const NAMES: [&str; 14] = [
+const NAMES: [&str; 13] = [
     "digest", "tag", "verify", "extract", "expand",
     "report_fingerprint", "report_keys", "report_check", "report_read", "report_site", "report_write",
-    "ledger_submit", "ledger_total", "stream_feed",
+    "ledger_submit", "ledger_total",
 ];
 const WRITE: usize = 10;
 const SUBMIT: usize = 11;
 const TOTAL: usize = 12;
-const FEED: usize = 13;
 const NOT_SOUND: u32 = 10;
 
 const NUMBERS: usize = 7;
 const INPUTS: usize = 5;
-// What a call changes: the ledger that a report is submitted to; or the buffer of a stream, and then the two numbers of its state.
-const LEDGER: usize = INPUTS;
-const OUTPUT: usize = LEDGER + 3;
-// The numbers that a call answers beside its own.
-const BESIDE: usize = OUTPUT + 1;
-const BUFFERS: usize = BESIDE + 2;
+const LEDGER: usize = INPUTS; // the one that a report is submitted to
+const OUTPUT: usize = LEDGER + 1;
+const BESIDE: usize = OUTPUT + 1; // the number that a call answers beside its own
+const BUFFERS: usize = BESIDE + 1;
 
-/// The bytes of an element, how many elements there are, and what the file gives: of an input and of what a call changes all, of an
-/// output what the call must write. Before the call an input holds the same, what is changed other bytes, and an output nothing that
-/// the file gives.
+/// The bytes of an element, how many elements there are, and what the file gives: of an input and of a ledger all, of an output what
+/// the call must write. Before the call an input holds the same, a ledger other bytes, and an output nothing that the file gives.
 #[derive(Clone, Copy)]
 struct Buffer<'a> {
     size: usize,
@@ -113,7 +107,7 @@ impl<'a> Rest<'a> {
             let (size, count, elements) = described[i];
             let given = self.bytes(size * elements);
             let (before, given) = match i {
-                LEDGER..OUTPUT => given.split_at(size * count),
+                LEDGER => given.split_at(size * count),
                 OUTPUT.. => (&[][..], given),
                 _ => (given, given),
             };
@@ -192,8 +186,8 @@ fn filled(buffer: &Buffer, given: &[u8], filling: u8) -> Vec<u8> {
 }
 
 fn called(case: &Case, lent: &mut [Lent; BUFFERS], null: bool) -> u32 {
-    let [a_count, b_count, c_count, d_count, e_count, ledger_count, _, _, out_count, _, _] = from_fn(|i| lent[i].count());
-    let [a, b, c, d, e, ledger, collected, closed, out, beside, length] = from_fn(|i| lent[i].pointer(null));
+    let [a_count, b_count, c_count, d_count, e_count, ledger_count, out_count, _] = from_fn(|i| lent[i].count());
+    let [a, b, c, d, e, ledger, out, beside] = from_fn(|i| lent[i].pointer(null));
     let n = case.numbers;
     let (hash, tag_length) = (n[0] as u32, n[1] as usize);
     // Each pointer has how many elements it is good for beside it, and no two of one call overlap.
@@ -215,9 +209,6 @@ fn called(case: &Case, lent: &mut [Lent; BUFFERS], null: bool) -> u32 {
             ),
             SUBMIT => tirmuzzle_ledger_submit(ledger.cast(), ledger_count, a, a_count, b, b_count, c, c_count, beside.cast()),
             TOTAL => tirmuzzle_ledger_total(a.cast(), a_count, beside.cast()),
-            FEED => tirmuzzle_stream_feed(
-                collected.cast(), closed.cast(), ledger, ledger_count, a, a_count, beside.cast(), length.cast(),
-            ),
             _ => panic!("the file has an unknown call"),
         }
     }
@@ -310,14 +301,8 @@ fn wrong(case: &Case, answer: u32, found: &[Vec<u8>; BUFFERS], filling: u8) -> O
     }
     for (place, buffer) in case.buffers.iter().enumerate() {
         if found[place] != filled(buffer, buffer.given, filling) {
-            let what = match place {
-                ..INPUTS => "an input was changed",
-                LEDGER => "another ledger, or another buffer of a stream",
-                ..OUTPUT => "another state of a stream",
-                OUTPUT => "another output",
-                _ => "another number beside the answer",
-            };
-            return Some(what.into());
+            let names = ["another ledger", "another output", "another number beside the answer"];
+            return Some(if place < INPUTS { "an input was changed" } else { names[place - INPUTS] }.into());
         }
     }
     let written = case.buffers[OUTPUT].given;
@@ -339,13 +324,11 @@ fn run(case: &Case, place: u64, seed: u64) {
             for input in &case.buffers[..INPUTS] {
                 eprintln!("  input, {} bytes: {}", input.given.len(), hex(input.given));
             }
-            for changed in &case.buffers[LEDGER..OUTPUT] {
-                eprintln!("  changed, before the call: {}", hex(changed.before));
-            }
+            eprintln!("  ledger before the call: {}", hex(case.buffers[LEDGER].before));
             eprintln!("  expected answer: {}, found: {answer}", case.answer);
             for output in LEDGER..BUFFERS {
-                eprintln!("  expected: {}", hex(&filled(&case.buffers[output], case.buffers[output].given, filling)));
-                eprintln!("  found:    {}", hex(&found[output]));
+                eprintln!("  expected output: {}", hex(&filled(&case.buffers[output], case.buffers[output].given, filling)));
+                eprintln!("  found output:    {}", hex(&found[output]));
             }
             eprintln!("  again: tests/outside/run --seed {seed} --case {place}");
             exit(1);

@@ -10,14 +10,14 @@ in 8, how many cases in 4, and then the cases one after the other, each as
     4   the number that it must answer
     56  the numbers that it takes, 8 bytes each, in the order of the C parameters, then zeros up to seven
     60  the inputs, in the order of the C parameters, up to five
-    36  what the call changes, up to three: the ledger that a report is submitted to; or a stream's buffer, collected and closed
-    36  the outputs, up to three: the second is what length, seen, total or used points to, the third a feed's length
+    12  the ledger that a report is submitted to
+    24  the outputs, up to two: the second is what length, seen or total points to
         then, buffer by buffer in this order, the elements that the file gives
 
 with 12 bytes for a buffer, all of them 0 where the call has none: how many bytes an element has (1, 4, 8, or 48 of a record), how
-many elements there are, and how many the file gives. Of an input it gives all; of what a call changes all as they are before the call,
-and then all as they must be after it; and of an output those that the call must write: from the first on, and none where it must write
-nothing. The others must stay as they were.
+many elements there are, and how many the file gives. Of an input it gives all; of a ledger all as they are before the call, and then
+all as they must be after it; and of an output those that the call must write: from the first on, and none where it must write nothing.
+The others must stay as they were.
 
 A caller hands an empty buffer over as NULL and as a pointer by turns, so that no case says which."""
 import collections
@@ -32,7 +32,6 @@ sys.path.insert(0, str(pathlib.Path(__file__).resolve().parent.parent))
 import answers
 import ledger_cases
 import report_rules
-import stream_cases
 from report_cases import (
     FAULTS, FREE_FIELDS, KEY, LAYOUT, MOST_REPORT_BYTES, WORKED, big, counted, faulty, made, of_length, site, with_byte,
 )
@@ -43,7 +42,7 @@ SEED = 20180
 CALLS = (
     "digest", "tag", "verify", "extract", "expand",
     "report_fingerprint", "report_keys", "report_check", "report_read", "report_site", "report_write",
-    "ledger_submit", "ledger_total", "stream_feed",
+    "ledger_submit", "ledger_total",
 )
 # The numbers that each call can be brought to answer here. 3 and 4 take some 2^61 bytes, and are left to limits.c.
 READING = (0, 2, 11, 12, 13, 14, 15, 16)
@@ -51,16 +50,16 @@ NUMBERS = dict(
     digest=(0, 2, 6), tag=(0, 2, 5, 6), verify=(0, 1, 2, 5, 6), extract=(0, 2, 6), expand=(0, 2, 7, 8, 9),
     report_fingerprint=READING + (6, 21), report_keys=(0, 2, 6, 7), report_check=READING + (1, 21), report_read=READING + (6,),
     report_site=READING + (17, 6), report_write=(0, 2, 6, 13, 14, 15, 16, 18, 21),
-    ledger_submit=READING + (1, 10, 19, 20, 21), ledger_total=(0, 10), stream_feed=READING + (6, 10),
+    ledger_submit=READING + (1, 10, 19, 20, 21), ledger_total=(0, 10),
 )
-# How many buffers each call takes: inputs, the ledger or the stream's buffer, and the output, together.
+# How many buffers each call takes, inputs, ledger and output together.
 BUFFERS = dict(
     digest=2, tag=3, verify=3, extract=3, expand=3,
     report_fingerprint=3, report_keys=2, report_check=2, report_read=2, report_site=2, report_write=6,
-    ledger_submit=4, ledger_total=1, stream_feed=2,
+    ledger_submit=4, ledger_total=1,
 )
-# How many numbers, inputs, changed buffers and outputs a case has in the file.
-MOST_NUMBERS, MOST_INPUTS, MOST_CHANGED, MOST_OUTPUTS = 7, 5, 3, 3
+# How many numbers, inputs and outputs a case has in the file.
+MOST_NUMBERS, MOST_INPUTS, MOST_OUTPUTS = 7, 5, 2
 
 UNKNOWN_HASHES = (0, 3, 4, 255, 256, 257, 258, 2**16 + 1, 2**31, 2**31 + 1, 2**32 - 1)
 LENGTHS = range(301)
@@ -68,12 +67,10 @@ LONG_LENGTHS = (1000, 4097, 20000)
 LONGEST_LENGTHS = (65535, 65536, 2**20 - 1, 2**20)
 BEYOND_32_BITS = (2**32, 2**32 + 16, 2**32 + 32, 2**63, 2**64 - 1)
 
-# An input, what a call changes, or an output: the bytes of an element, how many elements there are, and the bytes of those that the
-# file gives.
+# An input, a ledger or an output: the bytes of an element, how many elements there are, and the bytes of those that the file gives.
 Buffer = collections.namedtuple("Buffer", "size count given")
 NO_BUFFER = Buffer(0, 0, b"")
-# The outcome is of a feed: how it came out.
-Case = collections.namedtuple("Case", "call answer numbers inputs outputs changed outcome", defaults=[(), None])
+Case = collections.namedtuple("Case", "call answer numbers inputs outputs ledger", defaults=[NO_BUFFER])
 # Sites as report_write takes them.
 Columns = collections.namedtuple("Columns", "labels lengths live blocks")
 
@@ -173,22 +170,11 @@ def write_again(report, key, size=None):
 def submit(submission):
     inputs = [of_bytes(submission.report), of_bytes(submission.tag_key), of_bytes(submission.fingerprint_key)]
     outputs = [NO_BUFFER, of_numbers([submission.seen], 4)]
-    return Case("ledger_submit", submission.number, [], inputs, outputs, [of_ledgers(submission.ledger, submission.after)])
+    return Case("ledger_submit", submission.number, [], inputs, outputs, of_ledgers(submission.ledger, submission.after))
 
 
 def total(asked):
     return Case("ledger_total", asked.number, [], [of_ledgers(asked.ledger)], [NO_BUFFER, of_numbers([asked.total], 8)])
-
-
-def feed(given):
-    after = given.fed
-    changed = [
-        Buffer(1, len(given.buffer), given.buffer + after.buffer),
-        Buffer(8, 1, answers.in_words([given.collected, after.collected], 8)),
-        Buffer(4, 1, answers.in_words([given.closed, after.closed], 4)),
-    ]
-    outputs = [NO_BUFFER, of_numbers([after.used], 8), of_numbers([after.length], 8)]
-    return Case("stream_feed", after.number, [], [of_bytes(given.piece)], outputs, changed, stream_cases.outcome(given))
 
 
 def block_edges(hash):
@@ -644,22 +630,18 @@ def ledgers(source):
         yield submit(given) if isinstance(given, ledger_cases.Submission) else total(given)
 
 
-def streams(source):
-    return map(feed, stream_cases.cases(source))
-
-
 def all_cases(source):
     for part in (
         digests, tags, verifications, extractions, expansions, key_pairs, good_reports, report_keys_of_every_length, short_report_keys,
         damaged_reports, two_damages, noise, sums, written_fields, written_buffers, unequal_columns, written_label_lengths,
-        written_labels, two_faults_of_writing, drawn_writes, retries, ledgers, streams,
+        written_labels, two_faults_of_writing, drawn_writes, retries, ledgers,
     ):
         yield from part(source)
 
 
 def hold_to_numbers(cases):
-    """Every number that a call can answer is reached at least twice, a report is new and seen at least twice, a feed comes out in each
-    way at least twice, and each buffer of a call is empty at least once. Prints how often each number is."""
+    """Every number that a call can answer is reached at least twice, a report is new and seen at least twice, and each buffer of a call
+    is empty at least once. Prints how often each number is."""
     reached = collections.Counter((case.call, case.answer) for case in cases)
     for call, numbers in NUMBERS.items():
         print(f"{call}: " + ", ".join(f"{number} {reached[call, number]} times" for number in sorted(numbers)))
@@ -669,12 +651,9 @@ def hold_to_numbers(cases):
     counting = [case.outputs[1].given for case in cases if case.call == "ledger_submit" and case.answer == 0]
     print(f"ledger_submit: new {counting.count(bytes(4))} times, seen {counting.count(bytes([1, 0, 0, 0]))} times")
     hold(min(map(counting.count, (bytes(4), bytes([1, 0, 0, 0])))) >= 2, "a report is new or seen fewer than two times")
-    fed = collections.Counter(case.outcome for case in cases if case.call == "stream_feed")
-    print("stream_feed: " + ", ".join(f"{outcome} {fed[outcome]} times" for outcome in stream_cases.OUTCOMES))
-    hold(min(fed[outcome] for outcome in stream_cases.OUTCOMES) >= 2, "a feed comes out in some way fewer than two times")
     empty = collections.Counter()
     for case in cases:
-        buffers = [buffer for buffer in [*case.inputs, *case.changed[:1], *case.outputs[:1]] if buffer.size > 0]
+        buffers = [buffer for buffer in [*case.inputs, case.ledger, *case.outputs[:1]] if buffer.size > 0]
         hold(len(buffers) == BUFFERS[case.call], f"a case of {case.call} has another number of buffers")
         empty.update((case.call, place) for place, buffer in enumerate(buffers) if buffer.count == 0)
     for call, buffers in BUFFERS.items():
@@ -688,7 +667,7 @@ def filled_up(given, count, filling):
 
 def spelled(case):
     inputs, outputs = filled_up(case.inputs, MOST_INPUTS, NO_BUFFER), filled_up(case.outputs, MOST_OUTPUTS, NO_BUFFER)
-    buffers = [*inputs, *filled_up(list(case.changed), MOST_CHANGED, NO_BUFFER), *outputs]
+    buffers = [*inputs, case.ledger, *outputs]
     head = struct.pack(f"<II{MOST_NUMBERS}Q", CALLS.index(case.call), case.answer, *filled_up(case.numbers, MOST_NUMBERS, 0))
     for size, count, given in buffers:
         head += struct.pack("<III", size, count, len(given) // max(size, 1))

@@ -1,7 +1,6 @@
 /* Calls the library on both sides of the limits near 2^61 - 1 bytes, with reports and labels that are 4 GiB or 2^61 bytes longer than
- * they say themselves, and with keys of reports on both sides of the shortest. What is too long or too short is refused and not read, and
- * neither is the longest or the shortest key read where something else is refused. Streams are fed pieces and buffers of such lengths
- * too: of a piece no byte is read that is not used.
+ * they say themselves, and with keys of reports on both sides of the shortest. Every call is refused. What is too long or too short is
+ * not read, and neither is the longest or the shortest key where something else is refused.
  *
  * No machine can lend 2^61 bytes. So these lengths come with the address of memory that is shorter and may not be read, but for the
  * beginning of a report just before it: C's side of the header is broken on purpose, and a call that reads on ends the program. */
@@ -36,8 +35,8 @@ static void require(int holds, const char *what)
     }
 }
 
-/* A call answers its number, and the output is as it was. */
-static void answers(const char *what, uint32_t expected, uint32_t answer)
+/* A refused call answers its number, and the output is as it was. */
+static void refuses(const char *what, uint32_t expected, uint32_t answer)
 {
     if (answer != expected)
         fprintf(stderr, "limits: answered %lu, expected %lu\n", (unsigned long)answer, (unsigned long)expected);
@@ -54,26 +53,26 @@ static void answers(const char *what, uint32_t expected, uint32_t answer)
 static void refused_lengths(uint32_t hash, size_t digest, size_t block)
 {
     size_t over = MOST + 1, message = over - block, info = 1024 + 1;
-    answers("digest", 4, tirmuzzle_digest(hash, unreadable, over, out, digest));
-    answers("digest, and a wrong size", 4, tirmuzzle_digest(hash, unreadable, over, out, 1));
-    answers("tag, key", 3, tirmuzzle_tag(hash, unreadable, over, abc, 3, digest, out, digest));
-    answers("verify, key", 3, tirmuzzle_verify(hash, unreadable, over, abc, 3, digest, unreadable, digest));
-    answers("extract, salt", 3, tirmuzzle_extract(hash, unreadable, over, abc, 3, out, digest));
-    answers("extract, salt and material", 3, tirmuzzle_extract(hash, unreadable, over, unreadable, message, out, digest));
-    answers("extract, material and a wrong size", 4, tirmuzzle_extract(hash, key, 3, unreadable, message, out, 1));
-    answers("extract, material", 4, tirmuzzle_extract(hash, key, 3, unreadable, message, out, digest));
-    answers("extract, material under no salt", 4, tirmuzzle_extract(hash, NULL, 0, unreadable, message, out, digest));
-    answers("expand, PRK", 3, tirmuzzle_expand(hash, unreadable, over, abc, 3, out, digest));
-    answers("expand, PRK and info", 3, tirmuzzle_expand(hash, unreadable, over, unreadable, info, out, digest));
-    answers("expand, longest PRK and info", 8, tirmuzzle_expand(hash, unreadable, MOST, unreadable, info, out, digest));
-    answers("expand, longest PRK and output", 9, tirmuzzle_expand(hash, unreadable, MOST, abc, 3, long_out, 255 * digest + 1));
+    refuses("digest", 4, tirmuzzle_digest(hash, unreadable, over, out, digest));
+    refuses("digest, and a wrong size", 4, tirmuzzle_digest(hash, unreadable, over, out, 1));
+    refuses("tag, key", 3, tirmuzzle_tag(hash, unreadable, over, abc, 3, digest, out, digest));
+    refuses("verify, key", 3, tirmuzzle_verify(hash, unreadable, over, abc, 3, digest, unreadable, digest));
+    refuses("extract, salt", 3, tirmuzzle_extract(hash, unreadable, over, abc, 3, out, digest));
+    refuses("extract, salt and material", 3, tirmuzzle_extract(hash, unreadable, over, unreadable, message, out, digest));
+    refuses("extract, material and a wrong size", 4, tirmuzzle_extract(hash, key, 3, unreadable, message, out, 1));
+    refuses("extract, material", 4, tirmuzzle_extract(hash, key, 3, unreadable, message, out, digest));
+    refuses("extract, material under no salt", 4, tirmuzzle_extract(hash, NULL, 0, unreadable, message, out, digest));
+    refuses("expand, PRK", 3, tirmuzzle_expand(hash, unreadable, over, abc, 3, out, digest));
+    refuses("expand, PRK and info", 3, tirmuzzle_expand(hash, unreadable, over, unreadable, info, out, digest));
+    refuses("expand, longest PRK and info", 8, tirmuzzle_expand(hash, unreadable, MOST, unreadable, info, out, digest));
+    refuses("expand, longest PRK and output", 9, tirmuzzle_expand(hash, unreadable, MOST, abc, 3, long_out, 255 * digest + 1));
     for (size_t i = 0; i < sizeof long_out; i++)
         require(long_out[i] == 0, "expand, longest PRK and output");
-    answers("keys, PRK", 3, tirmuzzle_report_keys(hash, unreadable, over, 7, 258, out, 2 * digest));
-    answers("keys, PRK and a wrong size", 3, tirmuzzle_report_keys(hash, unreadable, over, 7, 258, out, 1));
-    answers("keys, longest PRK and a wrong size", 6, tirmuzzle_report_keys(hash, unreadable, MOST, 7, 258, out, 1));
-    answers("no hash, and too long", 2, tirmuzzle_digest(hash + 2, unreadable, over, out, digest));
-    answers("no hash, and too long a key", 2, tirmuzzle_tag(hash + 2, unreadable, over, abc, 3, digest, out, digest));
+    refuses("keys, PRK", 3, tirmuzzle_report_keys(hash, unreadable, over, 7, 258, out, 2 * digest));
+    refuses("keys, PRK and a wrong size", 3, tirmuzzle_report_keys(hash, unreadable, over, 7, 258, out, 1));
+    refuses("keys, longest PRK and a wrong size", 6, tirmuzzle_report_keys(hash, unreadable, MOST, 7, 258, out, 1));
+    refuses("no hash, and too long", 2, tirmuzzle_digest(hash + 2, unreadable, over, out, digest));
+    refuses("no hash, and too long a key", 2, tirmuzzle_tag(hash + 2, unreadable, over, abc, 3, digest, out, digest));
 }
 
 /* A tag length that is out of range, beside a message on both sides of its limit and far past it, and beside a key on both sides: 3
@@ -84,21 +83,21 @@ static void refused_bad_tag_length(uint32_t hash, size_t block, size_t tag_lengt
     const size_t messages[] = {MOST - block, over - block, over};
     for (size_t i = 0; i < sizeof messages / sizeof *messages; i++) {
         size_t message = messages[i];
-        answers("tag, message and tag length", 5, tirmuzzle_tag(hash, key, 3, unreadable, message, tag_length, out, size));
-        answers("tag, message, tag length and size", 5, tirmuzzle_tag(hash, key, 3, unreadable, message, tag_length, out, other));
-        answers("tag, key, message and tag length", 3,
+        refuses("tag, message and tag length", 5, tirmuzzle_tag(hash, key, 3, unreadable, message, tag_length, out, size));
+        refuses("tag, message, tag length and size", 5, tirmuzzle_tag(hash, key, 3, unreadable, message, tag_length, out, other));
+        refuses("tag, key, message and tag length", 3,
                 tirmuzzle_tag(hash, unreadable, over, unreadable, message, tag_length, out, size));
-        answers("tag, longest key, message and tag length", 5,
+        refuses("tag, longest key, message and tag length", 5,
                 tirmuzzle_tag(hash, unreadable, MOST, unreadable, message, tag_length, out, size));
-        answers("tag, no hash, message and tag length", 2, tirmuzzle_tag(0, key, 3, unreadable, message, tag_length, out, size));
-        answers("verify, message and tag length", 5, tirmuzzle_verify(hash, key, 3, unreadable, message, tag_length, unreadable, size));
-        answers("verify, message, tag length and size", 5,
+        refuses("tag, no hash, message and tag length", 2, tirmuzzle_tag(0, key, 3, unreadable, message, tag_length, out, size));
+        refuses("verify, message and tag length", 5, tirmuzzle_verify(hash, key, 3, unreadable, message, tag_length, unreadable, size));
+        refuses("verify, message, tag length and size", 5,
                 tirmuzzle_verify(hash, key, 3, unreadable, message, tag_length, unreadable, other));
-        answers("verify, key, message and tag length", 3,
+        refuses("verify, key, message and tag length", 3,
                 tirmuzzle_verify(hash, unreadable, over, unreadable, message, tag_length, unreadable, size));
-        answers("verify, longest key, message and tag length", 5,
+        refuses("verify, longest key, message and tag length", 5,
                 tirmuzzle_verify(hash, unreadable, MOST, unreadable, message, tag_length, unreadable, size));
-        answers("verify, no hash, message and tag length", 2,
+        refuses("verify, no hash, message and tag length", 2,
                 tirmuzzle_verify(0, key, 3, unreadable, message, tag_length, unreadable, size));
     }
 }
@@ -110,13 +109,13 @@ static void refused_good_tag_length(uint32_t hash, size_t block, size_t tag_leng
     const size_t messages[] = {over - block, over};
     for (size_t i = 0; i < sizeof messages / sizeof *messages; i++) {
         size_t message = messages[i];
-        answers("tag, message", 4, tirmuzzle_tag(hash, key, 3, unreadable, message, tag_length, out, tag_length));
-        answers("tag, message and size", 4, tirmuzzle_tag(hash, key, 3, unreadable, message, tag_length, out, tag_length - 1));
-        answers("tag, key and message", 3, tirmuzzle_tag(hash, unreadable, over, unreadable, message, tag_length, out, tag_length));
-        answers("verify, message", 4, tirmuzzle_verify(hash, key, 3, unreadable, message, tag_length, unreadable, tag_length));
-        answers("verify, message and size", 4,
+        refuses("tag, message", 4, tirmuzzle_tag(hash, key, 3, unreadable, message, tag_length, out, tag_length));
+        refuses("tag, message and size", 4, tirmuzzle_tag(hash, key, 3, unreadable, message, tag_length, out, tag_length - 1));
+        refuses("tag, key and message", 3, tirmuzzle_tag(hash, unreadable, over, unreadable, message, tag_length, out, tag_length));
+        refuses("verify, message", 4, tirmuzzle_verify(hash, key, 3, unreadable, message, tag_length, unreadable, tag_length));
+        refuses("verify, message and size", 4,
                 tirmuzzle_verify(hash, key, 3, unreadable, message, tag_length, unreadable, tag_length - 1));
-        answers("verify, key and message", 3,
+        refuses("verify, key and message", 3,
                 tirmuzzle_verify(hash, unreadable, over, unreadable, message, tag_length, unreadable, tag_length));
     }
 }
@@ -154,31 +153,31 @@ static void refused_reports(void)
     const size_t over = MOST + 1, lengths[] = {LONGER + sizeof report, over + sizeof report};
     memcpy(report, start, sizeof start);
     memcpy(beginning, report, sizeof report);
-    answers("check, key", 3, tirmuzzle_report_check(report, sizeof report, unreadable, over));
-    answers("fingerprint, key", 3, tirmuzzle_report_fingerprint(report, sizeof report, unreadable, over, out, 32));
-    answers("fingerprint, key and a wrong size", 3, tirmuzzle_report_fingerprint(report, sizeof report, unreadable, over, out, 1));
-    answers("fingerprint, longest key and a wrong size", 6,
+    refuses("check, key", 3, tirmuzzle_report_check(report, sizeof report, unreadable, over));
+    refuses("fingerprint, key", 3, tirmuzzle_report_fingerprint(report, sizeof report, unreadable, over, out, 32));
+    refuses("fingerprint, key and a wrong size", 3, tirmuzzle_report_fingerprint(report, sizeof report, unreadable, over, out, 1));
+    refuses("fingerprint, longest key and a wrong size", 6,
             tirmuzzle_report_fingerprint(report, sizeof report, unreadable, MOST, out, 1));
-    answers("fingerprint, shortest key and a wrong size", 6,
+    refuses("fingerprint, shortest key and a wrong size", 6,
             tirmuzzle_report_fingerprint(report, sizeof report, unreadable, SHORTEST, out, 1));
     for (size_t i = 0; i < SHORT_KEYS; i++) {
         size_t shorter = short_keys[i];
-        answers("check, short key", 21, tirmuzzle_report_check(report, sizeof report, unreadable, shorter));
-        answers("check, short key and a short report", 11, tirmuzzle_report_check(report, sizeof report - 1, unreadable, shorter));
-        answers("fingerprint, short key", 21, tirmuzzle_report_fingerprint(report, sizeof report, unreadable, shorter, out, 32));
-        answers("fingerprint, short key and a wrong size", 21,
+        refuses("check, short key", 21, tirmuzzle_report_check(report, sizeof report, unreadable, shorter));
+        refuses("check, short key and a short report", 11, tirmuzzle_report_check(report, sizeof report - 1, unreadable, shorter));
+        refuses("fingerprint, short key", 21, tirmuzzle_report_fingerprint(report, sizeof report, unreadable, shorter, out, 32));
+        refuses("fingerprint, short key and a wrong size", 21,
                 tirmuzzle_report_fingerprint(report, sizeof report, unreadable, shorter, out, 1));
-        answers("fingerprint, short key and a short report", 11,
+        refuses("fingerprint, short key and a short report", 11,
                 tirmuzzle_report_fingerprint(report, sizeof report - 1, unreadable, shorter, out, 32));
     }
     for (size_t i = 0; i < sizeof lengths / sizeof *lengths; i++) {
         size_t longer = lengths[i];
-        answers("read, longer", 11, tirmuzzle_report_read(beginning, longer, words, TIRMUZZLE_FIELDS));
-        answers("site, longer", 11, tirmuzzle_report_site(beginning, longer, 0, words, TIRMUZZLE_SITE_NUMBERS));
-        answers("check, longer", 11, tirmuzzle_report_check(beginning, longer, report_key, SHORTEST));
-        answers("fingerprint, longer", 11, tirmuzzle_report_fingerprint(beginning, longer, report_key, SHORTEST, out, 32));
-        answers("submit, longer", 11, submitting(FREE, beginning, longer, report_key, SHORTEST, report_key, SHORTEST));
-        answers("submit, longer, and an unsound ledger", 10,
+        refuses("read, longer", 11, tirmuzzle_report_read(beginning, longer, words, TIRMUZZLE_FIELDS));
+        refuses("site, longer", 11, tirmuzzle_report_site(beginning, longer, 0, words, TIRMUZZLE_SITE_NUMBERS));
+        refuses("check, longer", 11, tirmuzzle_report_check(beginning, longer, report_key, SHORTEST));
+        refuses("fingerprint, longer", 11, tirmuzzle_report_fingerprint(beginning, longer, report_key, SHORTEST, out, 32));
+        refuses("submit, longer", 11, submitting(FREE, beginning, longer, report_key, SHORTEST, report_key, SHORTEST));
+        refuses("submit, longer, and an unsound ledger", 10,
                 submitting(UNSOUND, beginning, longer, report_key, SHORTEST, report_key, SHORTEST));
     }
 }
@@ -188,21 +187,21 @@ static void refused_reports(void)
 static void refused_long_submissions(const uint8_t *report, size_t length)
 {
     size_t over = MOST + 1;
-    answers("submit, tag key", 3, submitting(FREE, report, length, unreadable, over, report_key, SHORTEST));
-    answers("submit, both keys", 3, submitting(FREE, report, length, unreadable, over, unreadable, over));
-    answers("submit, tag key and a full ledger", 3, submitting(USED, report, length, unreadable, over, report_key, SHORTEST));
-    answers("submit, tag key and a short report", 11, submitting(FREE, report, length - 1, unreadable, over, report_key, SHORTEST));
-    answers("submit, tag key and an unsound ledger", 10, submitting(UNSOUND, report, length, unreadable, over, report_key, SHORTEST));
-    answers("submit, fingerprint key", 3, submitting(FREE, report, length, report_key, SHORTEST, unreadable, over));
-    answers("submit, fingerprint key and a full ledger", 3, submitting(USED, report, length, report_key, SHORTEST, unreadable, over));
-    answers("submit, fingerprint key and another tag", 1, submitting(FREE, report, length, other_key, SHORTEST, unreadable, over));
-    answers("submit, fingerprint key and a short report", 11,
+    refuses("submit, tag key", 3, submitting(FREE, report, length, unreadable, over, report_key, SHORTEST));
+    refuses("submit, both keys", 3, submitting(FREE, report, length, unreadable, over, unreadable, over));
+    refuses("submit, tag key and a full ledger", 3, submitting(USED, report, length, unreadable, over, report_key, SHORTEST));
+    refuses("submit, tag key and a short report", 11, submitting(FREE, report, length - 1, unreadable, over, report_key, SHORTEST));
+    refuses("submit, tag key and an unsound ledger", 10, submitting(UNSOUND, report, length, unreadable, over, report_key, SHORTEST));
+    refuses("submit, fingerprint key", 3, submitting(FREE, report, length, report_key, SHORTEST, unreadable, over));
+    refuses("submit, fingerprint key and a full ledger", 3, submitting(USED, report, length, report_key, SHORTEST, unreadable, over));
+    refuses("submit, fingerprint key and another tag", 1, submitting(FREE, report, length, other_key, SHORTEST, unreadable, over));
+    refuses("submit, fingerprint key and a short report", 11,
             submitting(FREE, report, length - 1, report_key, SHORTEST, unreadable, over));
-    answers("submit, fingerprint key and an unsound ledger", 10,
+    refuses("submit, fingerprint key and an unsound ledger", 10,
             submitting(UNSOUND, report, length, report_key, SHORTEST, unreadable, over));
-    answers("submit, longest keys and a short report", 11, submitting(FREE, report, length - 1, unreadable, MOST, unreadable, MOST));
-    answers("submit, tag key, longest fingerprint key", 3, submitting(FREE, report, length, unreadable, over, unreadable, MOST));
-    answers("submit, longest fingerprint key and another tag", 1,
+    refuses("submit, longest keys and a short report", 11, submitting(FREE, report, length - 1, unreadable, MOST, unreadable, MOST));
+    refuses("submit, tag key, longest fingerprint key", 3, submitting(FREE, report, length, unreadable, over, unreadable, MOST));
+    refuses("submit, longest fingerprint key and another tag", 1,
             submitting(FREE, report, length, other_key, SHORTEST, unreadable, MOST));
 }
 
@@ -211,25 +210,25 @@ static void refused_long_submissions(const uint8_t *report, size_t length)
 static void refused_short_submissions(const uint8_t *report, size_t length, size_t shorter)
 {
     size_t over = MOST + 1;
-    answers("submit, short tag key", 21, submitting(FREE, report, length, unreadable, shorter, report_key, SHORTEST));
-    answers("submit, short keys", 21, submitting(FREE, report, length, unreadable, shorter, unreadable, shorter));
-    answers("submit, short tag key and long fingerprint key", 21,
+    refuses("submit, short tag key", 21, submitting(FREE, report, length, unreadable, shorter, report_key, SHORTEST));
+    refuses("submit, short keys", 21, submitting(FREE, report, length, unreadable, shorter, unreadable, shorter));
+    refuses("submit, short tag key and long fingerprint key", 21,
             submitting(FREE, report, length, unreadable, shorter, unreadable, over));
-    answers("submit, long tag key and short fingerprint key", 3,
+    refuses("submit, long tag key and short fingerprint key", 3,
             submitting(FREE, report, length, unreadable, over, unreadable, shorter));
-    answers("submit, short tag key and a full ledger", 21, submitting(USED, report, length, unreadable, shorter, report_key, SHORTEST));
-    answers("submit, short tag key and a short report", 11,
+    refuses("submit, short tag key and a full ledger", 21, submitting(USED, report, length, unreadable, shorter, report_key, SHORTEST));
+    refuses("submit, short tag key and a short report", 11,
             submitting(FREE, report, length - 1, unreadable, shorter, report_key, SHORTEST));
-    answers("submit, short tag key and an unsound ledger", 10,
+    refuses("submit, short tag key and an unsound ledger", 10,
             submitting(UNSOUND, report, length, unreadable, shorter, report_key, SHORTEST));
-    answers("submit, short fingerprint key", 21, submitting(FREE, report, length, report_key, SHORTEST, unreadable, shorter));
-    answers("submit, short fingerprint key and a full ledger", 21,
+    refuses("submit, short fingerprint key", 21, submitting(FREE, report, length, report_key, SHORTEST, unreadable, shorter));
+    refuses("submit, short fingerprint key and a full ledger", 21,
             submitting(USED, report, length, report_key, SHORTEST, unreadable, shorter));
-    answers("submit, short fingerprint key and another tag", 1,
+    refuses("submit, short fingerprint key and another tag", 1,
             submitting(FREE, report, length, other_key, SHORTEST, unreadable, shorter));
-    answers("submit, short fingerprint key and a short report", 11,
+    refuses("submit, short fingerprint key and a short report", 11,
             submitting(FREE, report, length - 1, report_key, SHORTEST, unreadable, shorter));
-    answers("submit, short fingerprint key and an unsound ledger", 10,
+    refuses("submit, short fingerprint key and an unsound ledger", 10,
             submitting(UNSOUND, report, length, report_key, SHORTEST, unreadable, shorter));
 }
 
@@ -248,9 +247,9 @@ static void refused_submissions(uint32_t hash)
 /* An unsound ledger is refused before a byte of the report or of a key is read. */
 static void refused_ledger(void)
 {
-    answers("submit, an unsound ledger and nothing to read", 10,
+    refuses("submit, an unsound ledger and nothing to read", 10,
             submitting(UNSOUND, unreadable, TIRMUZZLE_LARGEST_REPORT, unreadable, MOST, unreadable, MOST));
-    answers("submit, an unsound ledger and more that is refused", 10,
+    refuses("submit, an unsound ledger and more that is refused", 10,
             submitting(UNSOUND, unreadable, MOST, unreadable, MOST + 1, unreadable, MOST + 1));
 }
 
@@ -271,82 +270,23 @@ static uint32_t writing(uint32_t hash, uint64_t live, const uint8_t *labels, siz
 static void refused_writing(uint32_t hash)
 {
     size_t over = MOST + 1;
-    answers("write, key", 3, writing(hash, 5, abc, 3, over, OUT));
-    answers("write, key and live bytes", 16, writing(hash, (uint64_t)1 << 63, abc, 3, over, OUT));
-    answers("write, key and labels", 15, writing(hash, 5, abc, 2, over, OUT));
-    answers("write, key and a short buffer", 3, writing(hash, 5, abc, 3, over, 1));
-    answers("write, longest key and a short buffer", 18, writing(hash, 5, abc, 3, MOST, 1));
-    answers("write, key and no hash", 2, writing(hash + 2, 5, abc, 3, over, OUT));
-    answers("write, shortest key and a short buffer", 18, writing(hash, 5, abc, 3, SHORTEST, 1));
+    refuses("write, key", 3, writing(hash, 5, abc, 3, over, OUT));
+    refuses("write, key and live bytes", 16, writing(hash, (uint64_t)1 << 63, abc, 3, over, OUT));
+    refuses("write, key and labels", 15, writing(hash, 5, abc, 2, over, OUT));
+    refuses("write, key and a short buffer", 3, writing(hash, 5, abc, 3, over, 1));
+    refuses("write, longest key and a short buffer", 18, writing(hash, 5, abc, 3, MOST, 1));
+    refuses("write, key and no hash", 2, writing(hash + 2, 5, abc, 3, over, OUT));
+    refuses("write, shortest key and a short buffer", 18, writing(hash, 5, abc, 3, SHORTEST, 1));
     for (size_t i = 0; i < SHORT_KEYS; i++) {
         size_t shorter = short_keys[i];
-        answers("write, short key", 21, writing(hash, 5, abc, 3, shorter, OUT));
-        answers("write, short key and live bytes", 16, writing(hash, (uint64_t)1 << 63, abc, 3, shorter, OUT));
-        answers("write, short key and labels", 15, writing(hash, 5, abc, 2, shorter, OUT));
-        answers("write, short key and a short buffer", 21, writing(hash, 5, abc, 3, shorter, 1));
-        answers("write, short key and no hash", 2, writing(hash + 2, 5, abc, 3, shorter, OUT));
+        refuses("write, short key", 21, writing(hash, 5, abc, 3, shorter, OUT));
+        refuses("write, short key and live bytes", 16, writing(hash, (uint64_t)1 << 63, abc, 3, shorter, OUT));
+        refuses("write, short key and labels", 15, writing(hash, 5, abc, 2, shorter, OUT));
+        refuses("write, short key and a short buffer", 21, writing(hash, 5, abc, 3, shorter, 1));
+        refuses("write, short key and no hash", 2, writing(hash + 2, 5, abc, 3, shorter, OUT));
     }
-    answers("write, longer labels", 15, writing(hash, 5, unreadable, LONGER + 3, SHORTEST, OUT));
-    answers("write, longest labels", 15, writing(hash, 5, unreadable, over + 3, SHORTEST, OUT));
-}
-
-/* What a feed answers. Where a check refuses it, used and length are 0 and the state is as it was; the buffer may not be read. */
-static uint32_t feeding(uint64_t collected, uint32_t closed, size_t buffer_length, size_t piece_length)
-{
-    uint64_t collected_after = collected, used = UINT64_MAX, length = UINT64_MAX;
-    uint32_t closed_after = closed;
-    uint32_t answer = tirmuzzle_stream_feed(&collected_after, &closed_after, unreadable, buffer_length, unreadable + PAGE, piece_length,
-                                            &used, &length);
-    require(used == 0 && length == 0, "feed, used and length");
-    require(collected_after == collected && closed_after == closed, "feed, state");
-    return answer;
-}
-
-/* Neither the buffer nor the piece is read where too many bytes are collected, where the buffer has another size, and where the stream
- * is closed, whatever lengths they are said to have. */
-static void refused_feeds(void)
-{
-    enum { BUFFER = TIRMUZZLE_LARGEST_REPORT, MOST_COLLECTED = BUFFER - 1 };
-    static const size_t pieces[] = {0, 1, LONGER, MOST, MOST + 1, (size_t)-1};
-    static const size_t buffers[] = {0, BUFFER - 1, BUFFER + 1, LONGER + BUFFER, MOST + 1 + BUFFER, (size_t)-1};
-    for (size_t i = 0; i < sizeof pieces / sizeof *pieces; i++) {
-        for (size_t k = 0; k < sizeof buffers / sizeof *buffers; k++) {
-            answers("feed, collected and size", 10, feeding(BUFFER, 0, buffers[k], pieces[i]));
-            answers("feed, most collected and size", 6, feeding(MOST_COLLECTED, 0, buffers[k], pieces[i]));
-            answers("feed, size and closed", 6, feeding(0, 1, buffers[k], pieces[i]));
-        }
-        answers("feed, collected", 10, feeding(BUFFER, 0, BUFFER, pieces[i]));
-        answers("feed, collected and closed", 10, feeding((uint64_t)1 << 61, 1, BUFFER, pieces[i]));
-        answers("feed, closed", 11, feeding(MOST_COLLECTED, 7, BUFFER, pieces[i]));
-    }
-}
-
-/* A piece of which so many bytes can be read, at its beginning, though it is said to be far longer: the feed uses all of them, and reads
- * no other. */
-static void fed_no_further(const uint8_t *bytes, size_t readable, size_t piece_length, uint32_t expected, uint32_t expected_closed)
-{
-    static uint8_t buffer[TIRMUZZLE_LARGEST_REPORT];
-    uint8_t *piece = unreadable - readable;
-    uint64_t collected = 0, used = 0, length = 0;
-    uint32_t closed = 0;
-    memcpy(piece, bytes, readable);
-    answers("feed, a longer piece", expected,
-            tirmuzzle_stream_feed(&collected, &closed, buffer, sizeof buffer, piece, piece_length, &used, &length));
-    require(used == readable && collected == 0 && closed == expected_closed, "feed, a longer piece, used and state");
-    require(length == (closed ? 0 : readable) && memcmp(buffer, bytes, readable) == 0, "feed, a longer piece, buffer");
-}
-
-static void fed_longer_pieces(void)
-{
-    static const uint8_t out_of_range[] = {0, 0, 0, TIRMUZZLE_SMALLEST_REPORT - 5};
-    static const uint8_t start[] = {0, 0, 0, TIRMUZZLE_SMALLEST_REPORT - 4, 1, TIRMUZZLE_SHA256};
-    static const size_t lengths[] = {LONGER, MOST, MOST + 1, (size_t)-1};
-    uint8_t report[TIRMUZZLE_SMALLEST_REPORT] = {0};
-    memcpy(report, start, sizeof start);
-    for (size_t i = 0; i < sizeof lengths / sizeof *lengths; i++) {
-        fed_no_further(report, sizeof report, lengths[i], 0, 0);
-        fed_no_further(out_of_range, sizeof out_of_range, lengths[i], 11, 1);
-    }
+    refuses("write, longer labels", 15, writing(hash, 5, unreadable, LONGER + 3, SHORTEST, OUT));
+    refuses("write, longest labels", 15, writing(hash, 5, unreadable, over + 3, SHORTEST, OUT));
 }
 
 int main(void)
@@ -366,8 +306,6 @@ int main(void)
     refused_submissions(TIRMUZZLE_SHA256);
     refused_submissions(TIRMUZZLE_SHA512);
     refused_ledger();
-    refused_feeds();
-    fed_longer_pieces();
     printf("%d calls, of lengths at 2^61, of reports and labels that are too long, and of keys that are too short\n", calls);
     return 0;
 }

@@ -3,8 +3,7 @@
  * A call runs in a thread, on a stack that the thread filled with one byte before; the deepest byte that changed says how far the
  * call went. The bytes are counted from the frame of the thread's own function, so that the call's return address and its arguments
  * are among them. Each call takes what leads it deepest: keys longer than a block, messages and outputs of many blocks, the largest
- * report, whole and in pieces, a tag that differs, and a ledger of many records, whose bytes would not fit into what its calls may
- * take. */
+ * report, a tag that differs, and a ledger of many records, whose bytes would not fit into what its calls may take. */
 #define _DEFAULT_SOURCE
 #include "tirmuzzle.h"
 
