@@ -7,9 +7,9 @@ kit_libraries=$kit/toolchain/lib
 kit_tools=$kit/toolchain/bin
 archive=crates/tirmuzzle/out/libtirmuzzle.a
 
-# Proves the layers where no check has left its work, and makes the archive.
+# Proves the layers where no check has left its work, and makes the archive, for any x86-64 processor.
 make_archive() {
-    (cd crates/tirmuzzle && rt lib)
+    (cd crates/tirmuzzle && rt lib --cpu x86-64)
 }
 
 # Compiles C for x86-64 and links it, with the kit's linker and C library: takes the words that cc takes.

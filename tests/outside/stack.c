@@ -77,18 +77,18 @@ static const struct {
     uint32_t answer;
     size_t limit;
 } calls[] = {
-    {"tirmuzzle_tag", tag, 0, 4080},
-    {"tirmuzzle_verify", verify, 1, 4288},
-    {"tirmuzzle_extract", extract, 0, 4144},
-    {"tirmuzzle_expand", expand, 0, 4672},
-    {"tirmuzzle_report_write", write, 0, 4352},
-    {"tirmuzzle_report_fingerprint", fingerprint, 0, 4176},
-    {"tirmuzzle_digest", digest, 0, 2272},
-    {"tirmuzzle_report_keys", keys, 0, 4784},
-    {"tirmuzzle_report_check", check, 1, 4320},
+    {"tirmuzzle_tag", tag, 0, 4312},
+    {"tirmuzzle_verify", verify, 1, 4440},
+    {"tirmuzzle_extract", extract, 0, 4376},
+    {"tirmuzzle_expand", expand, 0, 4808},
+    {"tirmuzzle_report_write", write, 0, 4552},
+    {"tirmuzzle_report_fingerprint", fingerprint, 0, 4312},
+    {"tirmuzzle_digest", digest, 0, 2360},
+    {"tirmuzzle_report_keys", keys, 0, 4936},
+    {"tirmuzzle_report_check", check, 1, 4488},
     {"tirmuzzle_report_read", read, 0, 512},
     {"tirmuzzle_report_site", site, 0, 512},
-    {"tirmuzzle_ledger_submit", submit, 1, 4576},
+    {"tirmuzzle_ledger_submit", submit, 1, 4728},
     {"tirmuzzle_ledger_total", total, 0, 512},
     {"tirmuzzle_stream_feed", feed, 0, 512},
 };
