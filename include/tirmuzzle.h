@@ -3,18 +3,18 @@
  * Link with libtirmuzzle.a, which is code for Linux on x86-64.
  *
  * Every call answers one of the numbers below: that of the first check in its list that fails, or else TIRMUZZLE_DONE. A refused call
- * writes to no buffer; tirmuzzle_stream_feed alone, which reads whole reports out of a stream, has refusals that do. No call keeps a
- * pointer, allocates memory or has state of its own, so calls may run at the same time, but for other calls on a ledger while a report
- * is submitted to it, and two feeds of one stream.
+ * writes to no buffer. No call keeps a pointer, allocates memory or has state, so calls may run at the same time, but for other calls
+ * on a ledger while a report is submitted to it.
  *
  * A buffer is a pointer and how many elements it holds; NULL with 0 is an empty one. A buffer of bytes may start at any address, but
  * one of 32-bit numbers must be aligned for uint32_t, and one of 64-bit numbers or of records for uint64_t. Inputs may overlap each
- * other. If an output, a ledger that is submitted to, or the buffer of a stream overlaps any other buffer of the same call, the
- * behaviour is undefined.
+ * other. If an output, or a ledger that is submitted to, overlaps any other buffer of the same call, the behaviour is undefined.
  *
  * A pointer with no count beside it is no buffer: it leads to one number that a call answers beside its own, and that is always
- * written, with 0 where the call is refused; or, in tirmuzzle_stream_feed, to one that is read and moved on. It must not be NULL, must
- * be aligned for its type, and the number must not overlap any buffer of the same call, nor another such number.
+ * written, with 0 where the call is refused. It must not be NULL, must be aligned for its type, and the number must not overlap any
+ * buffer of the same call.
+ *
+ * tirmuzzle_stream_feed, which reads whole reports out of a stream, differs from this in part; what stands before it says how.
  *
  * A call uses up to some 5 KiB of the caller's stack, as far as was measured. docs/LIMITS.md has the bytes of each call, and what a
  * signal handler that runs on a stack of its own has to see to.
@@ -37,15 +37,13 @@ enum {
     TIRMUZZLE_KEY_TOO_LONG = 3,               /* key, salt or PRK over 2^61 - 1 bytes */
     TIRMUZZLE_MESSAGE_TOO_LONG = 4,           /* more than 2^61 - 1 bytes to hash; for a tag the key's block counts */
     TIRMUZZLE_TAG_LENGTH_OUT_OF_RANGE = 5,    /* a tag has 16 to 32 bytes under hash 1, 32 to 64 under hash 2 */
-    TIRMUZZLE_WRONG_SIZE = 6,                 /* a presented tag, an output of a fixed size or the buffer of a stream, of another
-                                                 size; or sites to be written, in buffers of unequal length */
+    TIRMUZZLE_WRONG_SIZE = 6,                 /* a presented tag, or an output of a fixed size, of another size; or sites to be
+                                                 written, in buffers of unequal length */
     TIRMUZZLE_PRK_TOO_SHORT = 7,              /* PRK shorter than a digest */
     TIRMUZZLE_INFO_TOO_LONG = 8,              /* info over 1,024 bytes */
     TIRMUZZLE_OUTPUT_TOO_LONG = 9,            /* output over 255 digests */
-    TIRMUZZLE_STATE_NOT_SOUND = 10,           /* a ledger or a stream is not sound; or a state of work in pieces, which has no call
-                                                 here */
-    TIRMUZZLE_WRONG_REPORT_LENGTH = 11,       /* report too short, or its count is not its length less four; or a stream names a
-                                                 report of fewer than 61 or more than 3,981 bytes, or is closed */
+    TIRMUZZLE_STATE_NOT_SOUND = 10,           /* a ledger is not sound; or a state of work in pieces, which has no call here */
+    TIRMUZZLE_WRONG_REPORT_LENGTH = 11,       /* report too short, or its count is not its length less four */
     TIRMUZZLE_UNKNOWN_VERSION = 12,           /* the report's version is not 1 */
     TIRMUZZLE_TOO_MANY_SITES = 13,            /* more than 64 sites */
     TIRMUZZLE_LABEL_LENGTH_OUT_OF_RANGE = 14, /* a label of 0 or more than 48 bytes */
@@ -258,7 +256,13 @@ uint32_t tirmuzzle_ledger_total(const struct tirmuzzle_record *records, size_t r
 /* Reports that come in pieces of any size, as from a socket. For each stream the host keeps a buffer of TIRMUZZLE_LARGEST_REPORT bytes
  * and its state: collected, how many bytes of the report on its way stand at the beginning of the buffer, and closed, which is 0 where
  * the stream is open and any other number where it is closed. A new stream has 0 in both, and any bytes in its buffer. Between feeds the
- * host changes none of the three. */
+ * host changes none of the three.
+ *
+ * A feed differs from the other calls in this: it has refusals that write, those of a whole report and that of a total out of range.
+ * collected and closed lead to numbers that are read and moved on, and none of the four numbers may overlap another. If the buffer of a
+ * stream overlaps any other buffer of the same call, the behaviour is undefined. Two feeds of one stream must not run at the same time.
+ * TIRMUZZLE_WRONG_SIZE is also for the buffer of a stream, TIRMUZZLE_STATE_NOT_SOUND for its state, and TIRMUZZLE_WRONG_REPORT_LENGTH for
+ * a report on its way of fewer than 61 or more than 3,981 bytes, and for a stream that is closed. */
 
 /* Feeds a piece, which may be empty, to a stream. Bytes of it are copied to the buffer, after those that are collected, up to the end of
  * the report on its way, and collected and closed are moved on. used and length are always written: how many bytes of the piece were
