@@ -7,3 +7,4 @@ pub mod Ring
 pub mod Tables
 pub mod Loops
 pub mod LastBlocks
+pub mod TwoRuns

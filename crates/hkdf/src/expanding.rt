@@ -14,7 +14,7 @@ use hmac::Keyed;
 // The start under the key, for tags of a digest's size, made once for all blocks.
 fn start(hash_number: u32, size: usize, prk: &[u8]) -> Keyed
     requires keyable { Keyable hash_number prk.now }
-    requires size_value { size ≡ size_of (hash_of hash_number) }
+    requires whole { size ≡ size_of (hash_of hash_number) }
     ensures { result ≡ fresh_keyed (hash_of hash_number) prk.now size }
 {
     let started = hmac::start(hash_number, prk, size);
@@ -23,8 +23,8 @@ fn start(hash_number: u32, size: usize, prk: &[u8]) -> Keyed
 
 // The tag over the beginning of a buffer.
 fn tag_into(keyed: Keyed, out: &mut [u8])
-    requires held_keyed { HeldKeyed keyed }
-    requires tag_length_in_bounds { keyed.tag_length ≤ length out.old }
+    requires held { HeldKeyed keyed }
+    requires room { keyed.tag_length ≤ length out.old }
     ensures { out.new ≡ over (keyed_tag keyed) out.old }
 {
     let size = keyed.tag_length;
@@ -52,7 +52,7 @@ fn stretch(keyed: Keyed, last: &[u8], info: &[u8], i: u8) -> [u8; 64]
 // block, since it has no room beyond the last.
 fn fill(hash_number: u32, size: usize, prk: &[u8], info: &[u8], out: &mut [u8])
     requires expandable { Expandable hash_number prk.now info.now out.old }
-    requires size_value { size ≡ size_of (hash_of hash_number) }
+    requires whole { size ≡ size_of (hash_of hash_number) }
     ensures { out.new ≡ expand_of (hash_of hash_number) prk.now info.now (length out.old) }
 {
     let keyed = start(hash_number, size, prk);
@@ -73,8 +73,8 @@ fn fill(hash_number: u32, size: usize, prk: &[u8], info: &[u8], out: &mut [u8])
 
 // The checks of the lengths in their order, then the work.
 fn expand_for(hash_number: u32, size: usize, prk: &[u8], info: &[u8], out: &mut [u8]) -> u32
-    requires hash_number_value { names hash_number ≡ true }
-    requires size_value { size ≡ size_of (hash_of hash_number) }
+    requires known { names hash_number ≡ true }
+    requires whole { size ≡ size_of (hash_of hash_number) }
     ensures { ExpandOutcome hash_number prk.now info.now out.old result out.new }
 {
     if algorithm::MOST_BYTES < prk.len() as u64 {

@@ -9,8 +9,8 @@ use hash::State;
 
 // Over the beginning of a buffer.
 fn end_into(state: State, out: &mut [u8])
-    requires state_value { sound_of state ≡ true }
-    requires hash_in_bounds { size_of state.hash ≤ length out.old }
+    requires sound { sound_of state ≡ true }
+    requires room { size_of state.hash ≤ length out.old }
     ensures { out.new ≡ over (end_of state) out.old }
 {
     let hash = state.hash;

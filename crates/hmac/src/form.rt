@@ -24,7 +24,7 @@ fn copied(bytes: &[u8]) -> [u8; LARGEST_BLOCK]
 // The digest of a key, and zeros after it.
 fn digested(hash_number: u32, hash: Hash, key: &[u8]) -> [u8; LARGEST_BLOCK]
     requires naming { Naming hash_number hash }
-    requires key_len_bound { length key.now ≤ most_bytes }
+    requires key_fits { length key.now ≤ most_bytes }
     ensures { result ≡ zeros_to largest_block (digest_of hash key.now) }
 {
     let started = hash::start(hash_number);
@@ -38,7 +38,7 @@ fn digested(hash_number: u32, hash: Hash, key: &[u8]) -> [u8; LARGEST_BLOCK]
 // The block form of a key, and zeros after it. A key of exactly a block is used as it is.
 pub(crate) fn block_form(hash_number: u32, hash: Hash, key: &[u8]) -> [u8; LARGEST_BLOCK]
     requires naming { Naming hash_number hash }
-    requires key_len_bound { length key.now ≤ most_bytes }
+    requires key_fits { length key.now ≤ most_bytes }
     ensures { result ≡ zeros_to largest_block (form_of hash key.now) }
 {
     let size = algorithm::block_size(hash);

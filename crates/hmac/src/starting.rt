@@ -37,7 +37,7 @@ fn refused(number: u32) -> Started
 // The keyed state that has taken its key.
 fn keyed_by(hash_number: u32, hash: Hash, key: &[u8], tag_length: usize) -> Keyed
     requires naming { Naming hash_number hash }
-    requires key_len_bound { length key.now ≤ most_bytes }
+    requires key_fits { length key.now ≤ most_bytes }
     ensures { result ≡ fresh_keyed hash key.now tag_length }
 {
     let form = crate::form::block_form(hash_number, hash, key);
