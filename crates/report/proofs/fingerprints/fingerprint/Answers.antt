@@ -1,0 +1,113 @@
+-- `report::fingerprints::fingerprint`: reading, the key's checks, the output's, then the tag of both pieces. Assumes nothing.
+use mathlib.Core.Path.{◌≡◌, sym, ap, ◌∙◌}
+use mathlib.Core.List.{List, ◌++◌}
+use Prim.Native.Nat.{ℕ, ◌-◌}
+use native.Mathlib.Omega.{arith}
+use lib.ListN.{length, take, drop, length-take, length-drop}
+use lib.Seq.{length-take-le, slice}
+use Rattle.octets.specs.Parts.{part_slice}
+use Rattle.algorithm.specs.Hashes.{hash_of}
+use Rattle.algorithm.specs.Hashes.Laws.{block_most}
+use Rattle.algorithm.specs.Refusals.{done}
+use Rattle.algorithm.specs.Checks.{first_failing, written}
+use Rattle.hmac.specs.Hmac.{tag_of}
+use Rattle.report.specs.Reading.{names_hash, tag_start, before_tag}
+use Rattle.report.specs.Reading.Laws.{short}
+use Rattle.report.specs.Fingerprint.{gap_start, gap_end, message_of, fingerprint_of}
+use Rattle.report.specs.Calls.{key_checks}
+use Rattle.report.specs.Calls.Laws.{key_fits, fingerprint_refused, fingerprint_key_lem, fingerprint_wrong_size, fingerprint_accepted}
+use Rattle.report.specs.Inside.{TwoPieces}
+use Rattle.report.specs.declared.checks.Checked.{Checked}
+use Rattle.report.proofs.Checked.{Read, number, refuses, read, hash_is, end_low, end_high}
+use Rattle.report.proofs.fingerprints.fingerprint.Goals as goal
+
+-- the two pieces of a report that passes, and the tag of both
+module _ (s key : List ℕ) {r : Checked} (p : Read s r) where
+  pieces : (at : ℕ) (out : List ℕ) → first_failing (key_checks key) ≡ done → length out ≡ 32
+      → TwoPieces r.hash key (take (gap_start - 4) (drop 4 s)) (take (r.end - at) (drop at s)) out
+  pieces at out d e =
+      let low = end_low s p in
+      let high = end_high s p in
+      let few = short s p.passes in
+      let before : length (before_tag s) ≡ r.end = length-take-le (tag_start s) s (omega arith) ∙ sym p.end in
+      let first : length (take (gap_start - 4) (drop 4 s)) ≡ gap_start - 4 = length-take-le (gap_start - 4) (drop 4 s) (rw length-drop (omega arith)) in
+      let second = length-take (r.end - at) (drop at s) in
+      record {
+        known = ap names_hash p.hash ∙ p.passes.known;
+        key_fits = key_fits key d;
+        fits = omega (arith, block_most (hash_of r.hash), second);
+        size = e;
+      }
+
+  tagged : {o : List ℕ} → o ≡ tag_of (hash_of r.hash) key 32 (take (gap_start - 4) (drop 4 s) ++ take (r.end - gap_end) (drop gap_end s)) → o ≡ fingerprint_of s key
+  unfolding message_of
+  tagged e =
+      e
+      ∙ (λ j. tag_of ((ap hash_of p.hash ∙ hash_is s p) j) key 32 (part_slice 4 gap_start s j ++ (part_slice gap_end r.end s ∙ ap (λ (t : ℕ). slice gap_end t s) p.end) j))
+
+pub returns-then-read-ne-DONE : goal.returns-then-read-ne-DONE
+returns-then-read-ne-DONE c =
+    let s = c.args.report.now in
+    let out = c.args.out.now in
+    let e = c.check_report-read.ensures in
+    ap (λ (n : ℕ). written n out) (number s e)
+    ∙ sym (fingerprint_refused s c.args.fingerprint_key.now out (refuses s e c.if-read-ne-DONE.true))
+
+pub returns-then-number-ne-DONE : goal.returns-then-number-ne-DONE
+returns-then-number-ne-DONE c =
+    let s = c.args.report.now in
+    let out = c.args.out.now in
+    let p = read s c.check_report-read.ensures c.if-read-ne-DONE.false in
+    let e = c.check_key-number.ensures in
+    ap (λ (n : ℕ). written n out) e
+    ∙ sym (fingerprint_key_lem s c.args.fingerprint_key.now out p.passes (λ d. c.if-number-ne-DONE.true (e ∙ d)))
+
+pub returns-then-out-ne-FINGERPRINT : goal.returns-then-out-ne-FINGERPRINT
+returns-then-out-ne-FINGERPRINT c =
+    let s = c.args.report.now in
+    let key = c.args.fingerprint_key.now in
+    let p = read s c.check_report-read.ensures c.if-read-ne-DONE.false in
+    let passes = sym c.check_key-number.ensures ∙ c.if-number-ne-DONE.false in
+    sym (fingerprint_wrong_size s key c.args.out.now p.passes passes c.if-out-ne-FINGERPRINT.true)
+
+pub slice_bounds-tag_pieces-end : goal.slice_bounds-tag_pieces-end
+slice_bounds-tag_pieces-end c =
+    let s = c.args.report.now in
+    let p = read s c.check_report-read.ensures c.if-read-ne-DONE.false in
+    let low = end_low s p in
+    let high = end_high s p in
+    omega arith
+
+pub slice_bounds-tag_pieces-count-2 : goal.slice_bounds-tag_pieces-count-2
+slice_bounds-tag_pieces-count-2 c =
+    let s = c.args.report.now in
+    let low = end_low s (read s c.check_report-read.ensures c.if-read-ne-DONE.false) in
+    omega arith
+
+pub slice_bounds-tag_pieces-start-2 : goal.slice_bounds-tag_pieces-start-2
+slice_bounds-tag_pieces-start-2 c =
+    let s = c.args.report.now in
+    let low = end_low s (read s c.check_report-read.ensures c.if-read-ne-DONE.false) in
+    omega arith
+
+pub slice_bounds-tag_pieces-end-2 : goal.slice_bounds-tag_pieces-end-2
+slice_bounds-tag_pieces-end-2 c =
+    let s = c.args.report.now in
+    end_high s (read s c.check_report-read.ensures c.if-read-ne-DONE.false)
+
+pub tag_pieces-requires : goal.tag_pieces-requires
+tag_pieces-requires c =
+    let s = c.args.report.now in
+    let key = c.args.fingerprint_key.now in
+    let p = read s c.check_report-read.ensures c.if-read-ne-DONE.false in
+    let passes = sym c.check_key-number.ensures ∙ c.if-number-ne-DONE.false in
+    pieces s key p _ c.args.out.now passes c.if-out-ne-FINGERPRINT.false
+
+pub returns : goal.returns
+returns c =
+    let s = c.args.report.now in
+    let key = c.args.fingerprint_key.now in
+    let p = read s c.check_report-read.ensures c.if-read-ne-DONE.false in
+    let passes = sym c.check_key-number.ensures ∙ c.if-number-ne-DONE.false in
+    ap (written done) (tagged s key p c.tag_pieces.ensures)
+    ∙ sym (fingerprint_accepted s key c.args.out.now p.passes passes c.if-out-ne-FINGERPRINT.false)

@@ -1,0 +1,12 @@
+-- `report::format::hash_named`: each case by what its pattern showed. Assumes nothing.
+use borrow.Author.Tests.{ne_eqb}
+use Rattle.report.proofs.format.hash_named.Goals as goal
+
+pub returns-in-1 : goal.returns-in-1
+returns-in-1 c = simp c.in-1.is
+
+pub returns-in-2 : goal.returns-in-2
+returns-in-2 c = simp c.in-2.is
+
+pub returns-in_default : goal.returns-in_default
+returns-in_default c = simp (ne_eqb _ _ c.in_default.in_default-own.rest.0.1, ne_eqb _ _ c.in_default.in_default-own.rest.1)
