@@ -179,7 +179,7 @@ pub extern "C" fn tirmuzzle_stream_feed(
     used: &mut u64,
     length: &mut u64,
 ) -> u32
-    ensures { FeedShownOutcome (record { collected = collected.entry.now; closed = closed.old }) buffer.old piece.now result used.new length.new (record { collected = collected.exit.now; closed = closed.new }) buffer.new }
+    ensures { FeedShownOutcome (record { collected = collected.old; closed = closed.old }) buffer.old piece.now result used.new length.new (record { collected = collected.new; closed = closed.new }) buffer.new }
 {
     let state = State {
         collected: *collected as usize,

@@ -43,6 +43,7 @@ good_keys x p =
 
 -- the number of a check that fails is never the one of a call that is done
 fail_refuses : {cs : List Check} {n : ℕ} → Refusing cs → Fail cs n → n ≡ done → ⊥
+fail_refuses {n = n} none x3 = elim x3 [ ]
 fail_refuses (more z r) (here e) = z e
 fail_refuses (more z r) (later e f) = fail_refuses r f
 

@@ -6,7 +6,6 @@ use mathlib.Core.List.{List}
 use Prim.Native.Nat.{ℕ}
 use lib.Dec.{eqb}
 use lib.ListN.{length}
-use borrow.Author.Rules.{rules}
 use borrow.Author.Tests.{eqb-true, eqb-false}
 use Rattle.algorithm.specs.Refusals.{done}
 use Rattle.algorithm.specs.Checks.{first_failing}
@@ -19,8 +18,7 @@ use Rattle.report.specs.Calls.Laws.{tag_refusing, check_exactly, check_done, fin
 use Rattle.ledger.specs.Records.{zero_record}
 use Rattle.ledger.specs.Calls.{Submission, submission, fingerprint_in, live_in, record_of, report_checks}
 use Rattle.ledger.specs.Inside.{refused_one, accepted_one, judged_of}
-use Rattle.ledger.proofs.judging.judge_report.Statement.{statement}
-use Rattle.ledger.proofs.judging.judge_report.Tie as tie
+use Rattle.ledger.proofs.judging.judge_report.Goals as goal
 
 module _ (s tag_key fingerprint_key : List ℕ) where
   abbrev x : Submission
@@ -75,36 +73,27 @@ module _ (s tag_key fingerprint_key : List ℕ) where
           ap (λ (f : List ℕ). accepted_one f (live_in x)) (ap (λ (p : ℕ × List ℕ). p.1) (fingerprint_accepted s fingerprint_key out (passed s read_done) e size))
           ∙ sym (judged_accepted (then_key ∙ e))
 
-returns : tie.Need-returns
-returns c =
-    let a = c.before.before.before.before.before.before.args in
-    let e = c.before.before.check.ensures in
+pub returns-then-checked-ne-DONE : goal.returns-then-checked-ne-DONE
+returns-then-checked-ne-DONE c =
+    let e = c.check-checked.ensures in
     c.refused.ensures
     ∙ ap refused_one e
-    ∙ tag_refuses a.report.now a.tag-key.now a.fingerprint_key_lem.now (λ d. c.before.if1.true (e ∙ d))
+    ∙ tag_refuses c.args.report.now c.args.tag_key.now c.args.fingerprint_key.now (λ d. c.if-checked-ne-DONE.true (e ∙ d))
 
-returns-2 : tie.Need-returns-2
-returns-2 c =
-    let a = c.before.before.before.before.before.before.before.before.before.before.args in
-    let checked = sym c.before.before.before.before.before.before.check.ensures ∙ c.before.before.before.before.before.if1.false in
-    let e = ap (λ (p : ℕ × List ℕ). p.0) c.before.before.before.fingerprint.ensures in
-    c.refused2.ensures
+pub returns-then-made-ne-DONE : goal.returns-then-made-ne-DONE
+returns-then-made-ne-DONE c =
+    let checked = sym c.check-checked.ensures ∙ c.if-checked-ne-DONE.false in
+    let e = ap (λ (p : ℕ × List ℕ). p.0) c.fingerprint-made.ensures in
+    c.refused-then-made-ne-DONE.ensures
     ∙ ap refused_one e
-    ∙ key_refuses a.report.now a.tag-key.now a.fingerprint_key_lem.now checked _ refl (λ d. c.before.if2.true (e ∙ d))
+    ∙ key_refuses c.args.report.now c.args.tag_key.now c.args.fingerprint_key.now checked _ refl (λ d. c.if-made-ne-DONE.true (e ∙ d))
 
-returns-3 : tie.Need-returns-3
-returns-3 c =
-    let a = c.before.before.before.before.before.before.before.before.before.before.before.args in
-    let s = a.report.now in
-    let checked = sym c.before.before.before.before.before.before.before.check.ensures ∙ c.before.before.before.before.before.before.if1.false in
-    let made = c.before.before.before.before.fingerprint.ensures in
-    let live = ap (λ (r : Reading). r.live) (c.before.read.ensures ∙ read_passes s (passed s (read_done s a.tag-key.now a.fingerprint_key_lem.now checked))) in
+pub returns : goal.returns
+returns c =
+    let s = c.args.report.now in
+    let checked = sym c.check-checked.ensures ∙ c.if-checked-ne-DONE.false in
+    let made = c.fingerprint-made.ensures in
+    let live = ap (λ (r : Reading). r.live) (c.read-read.ensures ∙ read_passes s (passed s (read_done s c.args.tag_key.now c.args.fingerprint_key.now checked))) in
     c.accepted.ensures
     ∙ (λ i. accepted_one (made i).1 (live i))
-    ∙ accepts s a.tag-key.now a.fingerprint_key_lem.now checked _ refl (sym (ap (λ (p : ℕ × List ℕ). p.0) made) ∙ c.before.before.if2.false)
-
-pub judge_report_spec : {M : Type 1} → statement M
-judge_report_spec =
-    tie.close
-    (tie.spec (λ c κs. search rules) (λ c κs. search rules) returns (λ c. search rules) (λ c κs. search rules) (λ c κs. search rules) returns-2
-    (λ c κs. search rules) (λ c κs. search rules) returns-3)
+    ∙ accepts s c.args.tag_key.now c.args.fingerprint_key.now checked _ refl (sym (ap (λ (p : ℕ × List ℕ). p.0) made) ∙ c.if-made-ne-DONE.false)
