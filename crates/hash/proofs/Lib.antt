@@ -8,3 +8,4 @@ pub mod Tables
 pub mod Loops
 pub mod LastBlocks
 pub mod TwoRuns
+pub mod Proved

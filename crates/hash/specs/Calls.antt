@@ -1,6 +1,5 @@
 -- Believed: what each public call answers, for all arguments: its checks in their order, and the work where none fails. An outcome
 -- predicate is what the call's contract says; Calls/Unique.antt shows that no second outcome meets it. Assumes nothing.
-pub mod Laws
 pub mod Unique
 use Rattle.std.specs.Prelude.{◌≡◌, ℕ, ◌+◌, Bool, List, [], ◌∷◌, length, ◌==◌, nat_le}
 use Rattle.algorithm.specs.Hashes.{names, hash_of, size_of}
@@ -23,7 +22,7 @@ started n s = record { number = n; state = s }
 abbrev pub start_checks : ℕ → List Check
 start_checks n = check (names n) unknown_hash ∷ []
 
-pub start_of : ℕ → Started
+unfoldable pub start_of : ℕ → Started
 start_of n = record { number = first_failing (start_checks n); state = decided (start_checks n) (fresh_of (hash_of n)) zero_state }
 
 abbrev pub StartOutcome : ℕ → Started → Type 0
@@ -37,7 +36,7 @@ SoundOutcome s r = r ≡ sound_of s
 abbrev pub update_checks : State → List ℕ → List Check
 update_checks s p = check (sound_of s) state_not_sound ∷ check (nat_le (s.count + length p) most_bytes) message_too_long ∷ []
 
-pub update_of : State → List ℕ → Fed
+unfoldable pub update_of : State → List ℕ → Fed
 update_of s p = record { number = first_failing (update_checks s p); state = decided (update_checks s p) (after_of s p) s }
 
 abbrev pub UpdateOutcome : State → List ℕ → Fed → Type 0
@@ -47,7 +46,7 @@ UpdateOutcome s p r = r ≡ update_of s p
 abbrev pub finish_checks : State → List ℕ → List Check
 finish_checks s out = check (sound_of s) state_not_sound ∷ check (length out == size_of s.hash) wrong_size ∷ []
 
-pub finish_of : State → List ℕ → ℕ × List ℕ
+unfoldable pub finish_of : State → List ℕ → ℕ × List ℕ
 finish_of s out = answered (finish_checks s out) (end_of s) out
 
 abbrev pub FinishOutcome : State → List ℕ → ℕ → List ℕ → Type 0
@@ -61,7 +60,7 @@ digest_checks n m out =
     ∷ check (length out == size_of (hash_of n)) wrong_size
     ∷ []
 
-pub digest_answer : ℕ → List ℕ → List ℕ → ℕ × List ℕ
+unfoldable pub digest_answer : ℕ → List ℕ → List ℕ → ℕ × List ℕ
 digest_answer n m out = answered (digest_checks n m out) (digest_of (hash_of n) m) out
 
 abbrev pub DigestOutcome : ℕ → List ℕ → List ℕ → ℕ → List ℕ → Type 0

@@ -13,7 +13,7 @@ use Rattle.hash.specs.Digest.Laws.{digest_length}
 use Rattle.hash.specs.State.{sound_of, fresh_of, after_of}
 use Rattle.hash.specs.State.Laws.{fresh_held, fresh_count, after_held}
 use Rattle.hash.specs.Calls.{start_of, update_of}
-use Rattle.hash.specs.Calls.Laws.{start_accepted, update_accepted}
+use Rattle.hash.proofs.Proved.Calls.Laws.{start_accepted, update_accepted}
 use Rattle.hash.specs.declared.state.State.{State}
 use Rattle.hash.specs.declared.state.Started.{Started}
 use Rattle.hash.specs.declared.state.Fed.{Fed}

@@ -1,7 +1,5 @@
 -- Believed: what each public call answers, for all arguments: its checks in their order, and the work where none fails. An outcome
 -- predicate is what the call's contract says; Calls/Unique.antt shows that no second outcome meets it. Assumes nothing.
-pub mod Laws
-pub mod Computed
 pub mod Unique
 use Rattle.std.specs.Prelude.{◌≡◌, true, false, not, cond, ◌||◌, List, [], ◌∷◌, ◌++◌, ℕ, ◌+◌, ◌≤◌, leb}
 use Rattle.octets.specs.Sums.{largest_total}
@@ -51,7 +49,7 @@ room_checks rs x =
 abbrev pub submit_checks : List Record → Submission → List Check
 submit_checks rs x = check (sound rs) state_not_sound ∷ report_checks x ++ room_checks rs x
 
-pub submit_answer : List Record → Submission → Answer × List Record
+unfoldable pub submit_answer : List Record → Submission → Answer × List Record
 submit_answer rs x =
     let cs : List Check = submit_checks rs x in
     decided cs (cond (taken (fingerprint_in x) rs) (Seen, rs) (New, entered (record_of x) rs)) (Refused (first_failing cs), rs)
@@ -103,7 +101,7 @@ SubmitShownOutcome rs s tag_key fingerprint_key r seen after =
 abbrev pub total_checks : List Record → List Check
 total_checks rs = check (sound rs) state_not_sound ∷ []
 
-pub total_answer : List Record → Summed
+unfoldable pub total_answer : List Record → Summed
 total_answer rs = record { number = first_failing (total_checks rs); total = decided (total_checks rs) (total_of rs) 0 }
 
 abbrev pub TotalOutcome : List Record → Summed → Type 0

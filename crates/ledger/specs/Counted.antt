@@ -1,6 +1,5 @@
 -- Believed: what a sequence of submissions counts in an empty ledger of n records, from the sequence alone (docs/PROTOCOL.md, "The
 -- ledger"). Assumes nothing.
-pub mod Laws
 use Rattle.std.specs.Prelude.{Bool, false, not, cond, ◌&&◌, ◌||◌, List, [], ◌∷◌, ◌++◌, ℕ, ◌+◌, eqb, leb, ltb, length}
 use Rattle.octets.specs.Same.{equal}
 use Rattle.octets.specs.Sums.{largest_total}

@@ -1,7 +1,5 @@
 -- Private: what the private functions ask and promise. Assumes nothing.
-pub mod Laws
 pub mod Surveying
-pub mod Entering
 use Rattle.std.specs.Prelude.{Bool, true, false, not, cond, ◌&&◌, ◌||◌, List, [], ◌∷◌, ℕ, suc, ◌+◌, ◌*◌, eqb, leb, length, take, get_or, set}
 use Rattle.octets.specs.Same.{equal}
 use Rattle.octets.specs.Sums.{largest_total, plus_of}

@@ -1,8 +1,6 @@
 -- Believed: the records of a ledger (docs/PROTOCOL.md, "The ledger"): when a lent slice is sound, what it holds, and how a record is
 -- entered. Assumes nothing.
-pub mod Laws
 pub mod Places
-pub mod Longer
 pub mod Examples
 use Rattle.std.specs.Prelude.{◌≡◌, Bool, true, false, not, cond, ◌&&◌, ◌||◌, List, [], ◌∷◌, ℕ, ◌+◌, ◌<◌, eqb, leb, length, get_or, replicate}
 use Rattle.octets.specs.Every.{all_zero}

@@ -1,3 +1,4 @@
 pub mod Bits
 pub mod Tells
 pub mod Copied
+pub mod Proved

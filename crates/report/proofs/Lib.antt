@@ -4,3 +4,4 @@ pub mod Checked
 pub mod Planning
 pub mod Parts
 pub mod Whole
+pub mod Proved

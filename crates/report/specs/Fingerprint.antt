@@ -1,5 +1,4 @@
 -- Believed: the fingerprint of a report: its message, cut from the report by one gap, and its tag of 32 bytes. Assumes nothing.
-pub mod Laws
 use Rattle.std.specs.Prelude.{List, ◌++◌, ℕ}
 use Rattle.std.proofs.Math.Seq.{slice}
 use Rattle.hmac.specs.Hmac.{tag_of}

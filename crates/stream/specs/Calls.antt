@@ -1,6 +1,5 @@
 -- Believed: what each public call answers, for all arguments: its checks in their order, and the bytes taken in where none fails. An
 -- outcome predicate is what the call's contract says; Calls/Unique.antt shows that no second outcome meets it. Assumes nothing.
-pub mod Laws
 pub mod Unique
 use Rattle.std.specs.Prelude.{◌≡◌, Bool, true, false, not, ◌||◌, List, [], ◌∷◌, ◌++◌, ℕ, ◌-◌, ◌≤◌, leb, eqb, length, take, drop}
 use Rattle.algorithm.specs.Refusals.{done, wrong_size, state_not_sound, wrong_report_length}
@@ -75,7 +74,7 @@ taken s collected given buffer =
     (closing_fed (4 - collected), filled 4 s buffer)
     (whole_fed (take (total_of s) s) (total_of s - collected), filled (total_of s) s buffer)
 
-pub feed_answer : State → List ℕ → List ℕ → Fed × List ℕ
+unfoldable pub feed_answer : State → List ℕ → List ℕ → Fed × List ℕ
 feed_answer state buffer piece =
     let cs : List Check = feed_checks state buffer in
     decided cs (taken (on_hand state.collected buffer piece) state.collected (length piece) buffer) (refused_fed state (first_failing cs), buffer)

@@ -1,5 +1,4 @@
 -- Private: what the private functions ask and promise, and the cases that the proofs go by. Assumes nothing.
-pub mod Laws
 use Rattle.std.specs.Prelude.{◌≡◌, true, false, cond, List, ℕ, ◌+◌, ◌≤◌, ◌<◌, ltb, length, take}
 use Rattle.report.specs.Layout.{largest_report}
 use Rattle.stream.specs.Stream.{total_of, in_range, waits}

@@ -1,5 +1,4 @@
 -- Believed: a stream cut into pieces and fed one after the other, with the rest of a piece always fed again. Assumes nothing.
-pub mod Laws
 use Rattle.std.specs.Prelude.{Bool, true, false, cond, ℕ, zero, suc, ◌+◌, length, take, drop}
 use mathlib.Core.List.{List, [], ◌∷◌, flatten}
 use Rattle.stream.specs.Stream.{Event}
@@ -27,7 +26,7 @@ onward go f p ps =
     (noted f ∷ cond (is_closed f.0.state) [] (go f.0.state f.1 (drop f.0.used p ∷ ps)))
 
 -- the answers other than "more" of n feeds at most
-pub feeds : ℕ → State → List ℕ → List (List ℕ) → List Event
+unfoldable pub feeds : ℕ → State → List ℕ → List (List ℕ) → List Event
 feeds zero state buffer ps = []
 feeds (suc n) state buffer [] = []
 feeds (suc n) state buffer (p ∷ ps) = onward (feeds n) (feed_answer state buffer p) p ps

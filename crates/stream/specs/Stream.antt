@@ -1,6 +1,5 @@
 -- Believed: a stream of reports, from its bytes alone: the first four bytes name a total, a report of so many bytes is cut off, and so on
 -- from the byte after it. Nothing here knows of pieces or of a buffer. Assumes nothing.
-pub mod Laws
 use Rattle.std.specs.Prelude.{Bool, cond, ◌&&◌, ◌||◌, List, [], ◌∷◌, ℕ, zero, suc, ◌+◌, leb, ltb, eqb, length, take, drop}
 use Rattle.octets.specs.Number.{number_at}
 use Rattle.algorithm.specs.Refusals.{done, wrong_report_length}
@@ -14,11 +13,11 @@ unfoldable pub total_of : List ℕ → ℕ
 total_of s = number_at s 0 4 + 4
 
 -- whether a report can have so many bytes
-pub in_range : ℕ → Bool
+unfoldable pub in_range : ℕ → Bool
 in_range t = leb smallest_report t && leb t largest_report
 
 -- bytes that wait for more: fewer than four, or fewer than their total, which is in range
-pub waits : List ℕ → Bool
+unfoldable pub waits : List ℕ → Bool
 waits s = ltb (length s) 4 || (in_range (total_of s) && ltb (length s) (total_of s))
 
 -- by what bytes begin with: a report that waits for more, a total out of range, which closes the stream, or a whole report
@@ -44,7 +43,7 @@ abbrev pub closes : Event
 closes = (Refused wrong_report_length, [])
 
 -- the first n answers to some bytes, up to and including the one that closes the stream
-pub answers_for : ℕ → List ℕ → List Event
+unfoldable pub answers_for : ℕ → List ℕ → List Event
 answers_for zero s = []
 answers_for (suc n) s = by_beginning s [] (closes ∷ []) (reads (take (total_of s) s) ∷ answers_for n (drop (total_of s) s))
 

@@ -4,7 +4,7 @@ use Rattle.std.proofs.Common.{sym, ap, ◌∙◌, arith}
 use Rattle.std.proofs.Math.Decide.{dec_le}
 use Rattle.algorithm.specs.Refusals.{done, message_too_long, most_bytes}
 use Rattle.hash.specs.Calls as hash
-use Rattle.hash.specs.Calls.Laws as hash-laws
+use Rattle.hash.proofs.Proved.Calls.Laws as hash-laws
 use Rattle.hash.specs.declared.state.Fed as hash-fed
 use Rattle.hmac.specs.Keyed.{inner_of, joined, sound_keyed}
 use Rattle.hmac.specs.Keyed.Laws.{sound_inner}

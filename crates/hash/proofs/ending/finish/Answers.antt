@@ -5,7 +5,7 @@ use Rattle.algorithm.specs.Refusals.{done}
 use Rattle.hash.specs.State.{sound_of, end_of}
 use Rattle.hash.specs.State.Laws.{sound_count, sound_words}
 use Rattle.algorithm.specs.Checks.{written}
-use Rattle.hash.specs.Calls.Laws.{finish_not_sound, finish_wrong_size, finish_accepted}
+use Rattle.hash.proofs.Proved.Calls.Laws.{finish_not_sound, finish_wrong_size, finish_accepted}
 use Rattle.hash.proofs.LastBlocks.{digest_over}
 use Rattle.hash.proofs.ending.finish.Goals as goal
 

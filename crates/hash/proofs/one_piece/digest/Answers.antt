@@ -2,7 +2,7 @@
 use Rattle.std.proofs.Common.{◌≡◌, ◌∙◌}
 use Rattle.algorithm.specs.Checks.{written}
 use Rattle.hash.specs.Calls.{finish_of, digest_answer}
-use Rattle.hash.specs.Pieces.Laws.{start_refuses, piece_refuses, end_answers}
+use Rattle.hash.proofs.Proved.Pieces.Laws.{start_refuses, piece_refuses, end_answers}
 use Rattle.hash.proofs.one_piece.digest.Goals as goal
 
 pub returns-then-refusal-ne-DONE : goal.returns-then-refusal-ne-DONE

@@ -4,7 +4,7 @@ use Rattle.algorithm.specs.Refusals.{done}
 use Rattle.hash.specs.State.{sound_of}
 use Rattle.hash.specs.State.Laws.{sound_count}
 use Rattle.hash.specs.Calls.{fed}
-use Rattle.hash.specs.Calls.Laws.{update_not_sound, update_too_long, update_accepted}
+use Rattle.hash.proofs.Proved.Calls.Laws.{update_not_sound, update_too_long, update_accepted}
 use Rattle.hash.proofs.pieces.update.Goals as goal
 
 pub returns-then-not-ok : goal.returns-then-not-ok

@@ -5,7 +5,7 @@ use Rattle.algorithm.specs.Refusals.{done, unknown_hash}
 use Rattle.hash.specs.State.{fresh_of}
 use Rattle.hash.specs.State.Open.{zero_is}
 use Rattle.hash.specs.Calls.{started}
-use Rattle.hash.specs.Calls.Laws.{start_accepted, start_refused}
+use Rattle.hash.proofs.Proved.Calls.Laws.{start_accepted, start_refused}
 use Rattle.hash.proofs.starting.start.Goals as goal
 
 pub returns-in_default : goal.returns-in_default

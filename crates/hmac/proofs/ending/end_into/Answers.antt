@@ -8,7 +8,7 @@ use lib.Seq.{length-take-le}
 use Rattle.octets.specs.Copy.Laws.{over_short}
 use Rattle.hash.specs.State.{end_of}
 use Rattle.hash.specs.State.Laws.{end_length}
-use Rattle.hash.specs.Calls.Laws.{finish_accepted}
+use Rattle.hash.proofs.Proved.Calls.Laws.{finish_accepted}
 use Rattle.hmac.proofs.ending.end_into.Goals as goal
 
 pub slice_bounds-finish-end-2 : goal.slice_bounds-finish-end-2

@@ -12,7 +12,7 @@ use Rattle.algorithm.specs.Refusals.{most_bytes}
 use Rattle.hash.specs.State.{sound_of, after_of, end_of}
 use Rattle.hash.specs.State.Laws.{end_length, after_held}
 use Rattle.hash.specs.Calls.{update_of}
-use Rattle.hash.specs.Calls.Laws.{update_accepted}
+use Rattle.hash.proofs.Proved.Calls.Laws.{update_accepted}
 use Rattle.hash.specs.declared.state.State.{State}
 use Rattle.hash.specs.declared.state.Fed.{Fed}
 use Rattle.octets.specs.Zeros.{zeros_to}

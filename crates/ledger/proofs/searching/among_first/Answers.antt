@@ -4,7 +4,7 @@ use Rattle.std.proofs.lemmas.List.{get_or_default}
 use Rattle.octets.specs.Same.{equal}
 use Rattle.ledger.specs.declared.records.Record.{Record}
 use Rattle.ledger.specs.Records.{zero_record}
-use Rattle.ledger.specs.Inside.Laws.{among_none, among_more}
+use Rattle.ledger.proofs.Proved.Inside.Laws.{among_none, among_more}
 use Rattle.ledger.proofs.searching.among_first.Goals as goal
 
 pub loop-i-init : goal.loop-i-init

@@ -3,7 +3,7 @@ use Rattle.std.proofs.Common.{List, ap, ◌∙◌}
 use Rattle.ledger.specs.Inside.{judged_in, enter_of}
 use Rattle.ledger.specs.declared.surveying.Tally.{Tally}
 use Rattle.ledger.specs.declared.judging.Judged.{Judged}
-use Rattle.ledger.specs.Calls.Computed.{submit_is}
+use Rattle.ledger.proofs.Proved.Calls.Computed.{submit_is}
 use Rattle.ledger.proofs.submitting.submit.Goals as goal
 
 pub returns : goal.returns

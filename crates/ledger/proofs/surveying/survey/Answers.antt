@@ -4,7 +4,7 @@ use Rattle.std.proofs.lemmas.List.{get_or_default}
 use Rattle.ledger.specs.declared.records.Record.{Record}
 use Rattle.ledger.specs.Records.{used, zero_record}
 use Rattle.ledger.specs.Inside.{among, tally_of, with_record}
-use Rattle.ledger.specs.Inside.Laws.{count_within, tally_more}
+use Rattle.ledger.proofs.Proved.Inside.Laws.{count_within, tally_more}
 use Rattle.ledger.proofs.surveying.survey.Goals as goal
 
 pub with_record-tally-requires : goal.with_record-tally-requires

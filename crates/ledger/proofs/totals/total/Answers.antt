@@ -1,7 +1,7 @@
 -- `ledger::totals::total`: what the survey of the records says is what the definition does. Assumes nothing.
 use Rattle.std.proofs.Common.{ap, ◌∙◌}
 use Rattle.ledger.specs.Inside.{summed_of}
-use Rattle.ledger.specs.Calls.Computed.{total_is}
+use Rattle.ledger.proofs.Proved.Calls.Computed.{total_is}
 use Rattle.ledger.proofs.totals.total.Goals as goal
 
 pub returns : goal.returns

@@ -6,9 +6,9 @@ use native.Mathlib.Omega.{arith}
 use lib.ListN.{take}
 use lib.Seq.{length-take-le}
 use Rattle.stream.specs.Stream.{waits}
-use Rattle.stream.specs.Calls.Laws.{feed_not_sound, feed_wrong_size, feed_closed, waits_pass, passed_answer}
+use Rattle.stream.proofs.Proved.Calls.Laws.{feed_not_sound, feed_wrong_size, feed_closed, waits_pass, passed_answer}
 use Rattle.stream.specs.Inside.{Waiting}
-use Rattle.stream.specs.Inside.Laws.{held_lost}
+use Rattle.stream.proofs.Proved.Inside.Laws.{held_lost}
 use Rattle.stream.specs.declared.answers.Fed.{Fed}
 use Rattle.stream.proofs.feeding.feed.Goals as goal
 

@@ -2,7 +2,7 @@
 use mathlib.Core.Path.{sym, ap, ◌∙◌}
 use native.Mathlib.Omega.{arith}
 use lib.Seq.{length-take-le}
-use Rattle.stream.specs.Inside.Laws.{held_length}
+use Rattle.stream.proofs.Proved.Inside.Laws.{held_length}
 use Rattle.stream.specs.declared.answers.Fed.{Fed}
 use Rattle.stream.proofs.Goals.{body_goal, body_more, body_whole}
 use Rattle.stream.proofs.taking.take_body.Goals as goal

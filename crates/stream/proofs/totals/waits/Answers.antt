@@ -6,7 +6,7 @@ use native.Mathlib.Omega.{arith}
 use lib.Dec.{ltb}
 use lib.ListN.{length}
 use Rattle.stream.specs.Stream.{total_of, in_range}
-use Rattle.stream.specs.Stream.Laws.{waits_short, waits_out, waits_in}
+use Rattle.stream.proofs.Proved.Stream.Laws.{waits_short, waits_out, waits_in}
 use Rattle.stream.proofs.totals.waits.Goals as goal
 
 pub returns-then-bytes-lt-COUNT : goal.returns-then-bytes-lt-COUNT

@@ -1,0 +1,2 @@
+-- Laws of specs/Demand.antt. Assumes nothing.
+pub mod Laws

@@ -1,0 +1,2 @@
+-- Laws of specs/Limit.antt. Assumes nothing.
+pub mod Laws

@@ -1,0 +1,2 @@
+-- Laws of specs/Retry.antt. Assumes nothing.
+pub mod Laws

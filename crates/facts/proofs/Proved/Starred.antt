@@ -1,0 +1,2 @@
+-- Laws of specs/Starred.antt. Assumes nothing.
+pub mod Laws

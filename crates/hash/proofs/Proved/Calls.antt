@@ -1,0 +1,2 @@
+-- Laws of specs/Calls.antt. Assumes nothing.
+pub mod Laws

@@ -1,0 +1,2 @@
+-- Laws of specs/Pieces.antt. Assumes nothing.
+pub mod Laws

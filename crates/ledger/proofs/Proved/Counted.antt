@@ -1,0 +1,2 @@
+-- Laws of specs/Counted.antt. Assumes nothing.
+pub mod Laws

@@ -1,0 +1,3 @@
+-- Laws of specs/Records.antt. Assumes nothing.
+pub mod Laws
+pub mod Longer

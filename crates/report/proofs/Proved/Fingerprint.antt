@@ -1,0 +1,2 @@
+-- Laws of specs/Fingerprint.antt. Assumes nothing.
+pub mod Laws

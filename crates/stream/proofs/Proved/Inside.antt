@@ -1,0 +1,2 @@
+-- Laws of specs/Inside.antt. Assumes nothing.
+pub mod Laws

@@ -1,0 +1,2 @@
+-- Laws of specs/Runs.antt. Assumes nothing.
+pub mod Laws

@@ -1,0 +1,2 @@
+-- Laws of specs/Stream.antt. Assumes nothing.
+pub mod Laws
