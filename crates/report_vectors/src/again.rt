@@ -17,12 +17,12 @@ fn as_length(n: usize) -> u32 {
 
 // The numbers of every site, and how many sites there are.
 fn gather_numbers(report: &[u8], lengths: &mut [u32], live: &mut [u64], blocks: &mut [u32]) -> usize
-    requires in_bounds { 64 ≤ length lengths.old }
-    requires in_bounds_2 { 64 ≤ length live.old }
-    requires in_bounds_3 { 64 ≤ length blocks.old }
-    ensures upper_bound { result ≤ length lengths.new }
-    ensures upper_bound_2 { result ≤ length live.new }
-    ensures upper_bound_3 { result ≤ length blocks.new }
+    requires room_for_lengths { 64 ≤ length lengths.old }
+    requires room_for_live { 64 ≤ length live.old }
+    requires room_for_blocks { 64 ≤ length blocks.old }
+    ensures in_lengths { result ≤ length lengths.new }
+    ensures in_live { result ≤ length live.new }
+    ensures in_blocks { result ≤ length blocks.new }
 {
     for place in 0..SITES {
         let site = report::site(report, place as u64);
