@@ -1,9 +1,9 @@
 #!/usr/bin/env python3
-"""Whether each file of crates/*/specs says what it is, and holds no more than that.
+"""Whether each file of crates/*/specs and crates/*/proofs/Proved says what it is, and holds no more than that.
 
     python3 tests/definitions.py [CRATES]    looks through the crates of the repository, or of another folder
 
-The first line of a file, Lib.antt apart, begins in one of three ways:
+The first line of a file, but for Lib.antt and what only names modules, begins in one of three ways, below proofs/Proved in the last:
 
     -- Believed:    definitions that a reader has to believe: it states no law
     -- Private:     what private functions ask and promise: it states no law either
@@ -18,6 +18,7 @@ import sys
 
 ROOT = pathlib.Path(__file__).resolve().parent.parent
 KINDS = ("Believed", "Private", "Proved")
+NODE = re.compile(r"(?:(?:--.*|(?:pub )?mod \w+)?\n)*")
 PUBLIC_DEFINITION = re.compile(r"\s*(abbrev pub|unfoldable pub|pub record|pub data)\b")
 SIGNATURE = re.compile(r"(?:abbrev |unfoldable )?(?:pub )?(\S+)(?: \{[^}]*\}| \([^)]*\))* : (.*)")
 LAW = re.compile(r"[≡≢↔≤⊥]|(?<!\S)<(?!\S)")
@@ -87,11 +88,11 @@ def is_law(type, facts):
     return not end_of(type).endswith("Type 0") and states_fact(type, facts)
 
 
-def faults(text, facts):
-    """What is wrong with a file, each with its line."""
-    kind = next((kind for kind in KINDS if text.startswith(f"-- {kind}: ")), None)
+def faults(text, facts, kinds):
+    """What is wrong with a file of one of these kinds, each with its line."""
+    kind = next((kind for kind in kinds if text.startswith(f"-- {kind}: ")), None)
     if kind is None:
-        yield 1, "the first line does not begin with " + ", ".join(f"'-- {kind}: '" for kind in KINDS[:-1]) + f" or '-- {KINDS[-1]}: '"
+        yield 1, "the first line does not begin with " + " or ".join(f"'-- {kind}: '" for kind in kinds)
     elif kind == "Proved":
         for number, line in enumerate(text.splitlines(), 1):
             if PUBLIC_DEFINITION.match(line):
@@ -111,13 +112,18 @@ def main(arguments):
     if len(arguments) > 1:
         sys.exit(__doc__)
     crates = pathlib.Path(arguments[0]) if arguments else ROOT / "crates"
-    files = sorted(path for path in crates.glob("*/specs/**/*.antt") if path.name != "Lib.antt")
-    texts = {path: path.read_text() for path in files}
+    kinds = {path: KINDS for path in sorted(crates.glob("*/specs/**/*.antt")) if path.name != "Lib.antt"}
+    kinds |= {path: KINDS[-1:] for path in sorted(crates.glob("*/proofs/Proved/**/*.antt")) if not NODE.fullmatch(path.read_text())}
+    texts = {path: path.read_text() for path in kinds}
     facts = names_of_facts(texts.values())
-    found = [f"{path.relative_to(crates.parent)}:{number}: {fault}" for path in files for number, fault in faults(texts[path], facts)]
-    if found or not files:
+    found = [
+        f"{path.relative_to(crates.parent)}:{number}: {fault}"
+        for path, text in texts.items()
+        for number, fault in faults(text, facts, kinds[path])
+    ]
+    if found or not texts:
         sys.exit("\n".join(found) or f"{crates} has no specs")
-    print(f"definitions: {len(files)} files, each as its first line says")
+    print(f"definitions: {len(texts)} files, each as its first line says")
 
 
 if __name__ == "__main__":
