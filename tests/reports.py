@@ -1,11 +1,12 @@
 #!/usr/bin/env python3
-"""What the program crates/report_vectors reads and must write, by a second program that shares nothing with the crates.
+"""What the programs crates/report_vectors and crates/stream_vectors read and must write, by a second program that shares nothing with
+the crates.
 
-    python3 tests/reports.py            writes the cases and the expected output, crates/report_vectors/stdin and stdout
-    python3 tests/reports.py --check    compares both with what is there
+    python3 tests/reports.py            writes the cases and the expected output, stdin and stdout in the folder of each program
+    python3 tests/reports.py --check    compares them with what is there
 
 The cases are records, one after the other: a byte that says the kind, and then, with numbers' highest bytes first and each string
-of bytes after its length in four,
+of bytes after its length in four, for report_vectors
 
     1  report, how many places in 1 byte, the places in 8 bytes each; answered by read, and by site and label at each place
     2  report, tag key; answered by check
@@ -17,6 +18,9 @@ of bytes after its length in four,
        what read, site and label answer of it
     6  report, tag key, fingerprint key; answered by submit to a ledger of one free record, and then once more to the ledger after it,
        each with the number, 1 where the report is seen, and the record: 1 where it is used, its live bytes and its fingerprint
+
+and for stream_vectors
+
     7  how many bytes are collected in 8 bytes, closed in 4, size of the buffer in 4, what it begins with, how many pieces in 1 byte, the
        pieces; answered by feed, to each piece and again to the rest of it as long as a feed uses some bytes and leaves others, each
        with the number and the case, the bytes used and the length, the state, and the buffer up to its last byte that is not a5
@@ -38,8 +42,9 @@ import write_cases
 from report_cases import KEY, hold, made
 
 ROOT = pathlib.Path(__file__).resolve().parent.parent
-CASES = "crates/report_vectors/stdin"
-EXPECTED = "crates/report_vectors/stdout"
+
+# The cases of each program.
+PROGRAMS = dict(report_vectors=(report_cases, write_cases, submit_cases), stream_vectors=(feed_cases,))
 
 WORKED_BEFORE_TAG = """
     00 00 00 48 01 01 00 00 00 07 00 00 00 00 00 00 01 02 00 00 00 00 00 00 00 09 00 00 00 00 00 00 03 e8 00
@@ -100,10 +105,14 @@ def main(arguments):
     if arguments not in ([], ["--check"]):
         sys.exit(__doc__)
     hold_to_document()
-    cases = [*report_cases.cases(), *write_cases.cases(), *submit_cases.cases(), *feed_cases.cases()]
-    lines = [line for _, answers in cases for line in answers]
-    hold_to_numbers(lines)
-    files = {CASES: b"".join(record for record, _ in cases), EXPECTED: "".join(line + "\n" for line in lines).encode()}
+    all_lines, files = [], {}
+    for program, modules in PROGRAMS.items():
+        cases = [case for module in modules for case in module.cases()]
+        lines = [line for _, answers in cases for line in answers]
+        all_lines += lines
+        files[f"crates/{program}/stdin"] = b"".join(record for record, _ in cases)
+        files[f"crates/{program}/stdout"] = "".join(line + "\n" for line in lines).encode()
+    hold_to_numbers(all_lines)
     if arguments:
         check(files)
     else:

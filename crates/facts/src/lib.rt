@@ -1,3 +1,2 @@
 // What the parts add up to: theorems alone, in specs/.
 #![tactic(auto)]
-

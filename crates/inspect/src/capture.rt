@@ -5,6 +5,7 @@ ghost use Rattle.inspect.specs.Found.{Fits};
 
 use crate::files;
 use report::LARGEST_REPORT;
+use std::io::Read;
 
 // The bytes of a report's count.
 const COUNT: usize = 4;
@@ -22,7 +23,7 @@ pub enum Found {
     CutReport(usize, usize),
     // A count that makes a length that leads nowhere.
     Wild(u64),
-    // A read that failed, and errno.
+    // A read that failed, and the system's number for why.
     Failed(i32),
 }
 
@@ -41,16 +42,15 @@ fn number(space: &[u8]) -> u32
 }
 
 // The rest of a report that has so many bytes.
-fn rest(fd: i32, space: &mut [u8], size: usize) -> Found
-    requires largest_report_in_bounds { largest_report ≤ length space.old }
-    requires le_size { (5 ≤ size) × (size ≤ largest_report) }
+fn rest(capture: &mut impl Read, space: &mut [u8], size: usize) -> Found
+    requires space_holds_largest { largest_report ≤ length space.old }
+    requires size_in_range { (5 ≤ size) × (size ≤ largest_report) }
     ensures { Fits result }
 {
-    let mut failed = false;
-    let came = files::fill(fd, &mut space[COUNT..size], &mut failed);
-    if failed {
-        return Found::Failed(os::errno());
-    }
+    let came = match files::fill(capture, &mut space[COUNT..size]) {
+        Ok(came) => came,
+        Err(error) => return Found::Failed(files::number(error)),
+    };
     if came < size - COUNT {
         return Found::CutReport(size, COUNT + came);
     }
@@ -59,15 +59,14 @@ fn rest(fd: i32, space: &mut [u8], size: usize) -> Found
 
 // The next report, also one that is too short to be read. A count of nothing, or of more than a report has, ends the search for more:
 // nothing tells where the next one would start.
-pub(crate) fn next(fd: i32, space: &mut [u8]) -> Found
+pub(crate) fn next(capture: &mut impl Read, space: &mut [u8]) -> Found
     requires { largest_report ≤ length space.old }
     ensures { Fits result }
 {
-    let mut failed = false;
-    let came = files::fill(fd, &mut space[0..COUNT], &mut failed);
-    if failed {
-        return Found::Failed(os::errno());
-    }
+    let came = match files::fill(capture, &mut space[0..COUNT]) {
+        Ok(came) => came,
+        Err(error) => return Found::Failed(files::number(error)),
+    };
     if came == 0 {
         return Found::End;
     }
@@ -78,5 +77,5 @@ pub(crate) fn next(fd: i32, space: &mut [u8]) -> Found
     if size == COUNT as u64 || (LARGEST_REPORT as u64) < size {
         return Found::Wild(size);
     }
-    rest(fd, space, size as usize)
+    rest(capture, space, size as usize)
 }

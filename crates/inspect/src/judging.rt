@@ -14,8 +14,8 @@ pub struct Judged {
 
 // The judgement under the two keys, the tag key and after it the fingerprint key, which are equally long.
 fn judge_under(report: &[u8], keys: &[u8]) -> Judged
-    ensures number_value { result.number ≡ verdict_under report.now keys.now }
-    ensures fingerprint_value { result.fingerprint ≡ fingerprint_under report.now keys.now }
+    ensures number { result.number ≡ verdict_under report.now keys.now }
+    ensures fingerprint { result.fingerprint ≡ fingerprint_under report.now keys.now }
 {
     let half = keys.len() / 2;
     let mut fingerprint = [0u8; 32];

@@ -13,15 +13,17 @@ mod row;
 mod say;
 mod tally;
 
+use std::io;
+
 // The arguments, the program's own name among them.
 const ARGUMENTS: usize = 3;
 
-fn main() {
-    if os::arg_count() != ARGUMENTS {
-        say::text(
+fn main(rt: HostRuntime) -> io::Result<()> {
+    if !files::has_argument(&rt, ARGUMENTS - 1) || files::has_argument(&rt, ARGUMENTS) {
+        return say::text(
+            &rt,
             b"usage: inspect CAPTURE PRK, two files: reports end to end, and the raw bytes of a PRK\n",
         );
-        return;
     }
-    prk::inspect();
+    prk::inspect(&rt)
 }

@@ -4,6 +4,7 @@ ghost use Rattle.std.specs.Prelude.{◌≡◌, ◌≤◌, ◌<◌, length};
 use crate::judging::Judged;
 use crate::{meanings, say};
 use report::Reading;
+use std::io;
 
 // Where the columns of numbers end.
 const OFFSET: usize = 20;
@@ -116,33 +117,42 @@ fn put_fingerprint(line: &mut [u8; LINE], bytes: [u8; 32]) {
 }
 
 // The first bytes of a line, and the line's end.
-fn say_line(line: &[u8; LINE], size: usize)
+fn say_line(rt: &impl Print, line: &[u8; LINE], size: usize) -> io::Result<()>
     requires { size ≤ 260 }
 {
     let whole: &[u8] = line;
-    say::text(&whole[0..size]);
-    say::text(b"\n");
+    say::text(rt, &whole[0..size])?;
+    say::text(rt, b"\n")
 }
 
 // The names of the columns.
-pub(crate) fn say_names() {
-    say::text(b"              offset     tenant              machine               report attempt");
-    say::text(b"       send time (ms) sites           live bytes       machine memory");
-    say::text(b" verdict                                      fingerprint\n");
+pub(crate) fn say_names(rt: &impl Print) -> io::Result<()> {
+    say::text(
+        rt,
+        b"              offset     tenant              machine               report attempt",
+    )?;
+    say::text(
+        rt,
+        b"       send time (ms) sites           live bytes       machine memory",
+    )?;
+    say::text(
+        rt,
+        b" verdict                                      fingerprint\n",
+    )
 }
 
 // The line of a report that reading refuses.
-pub(crate) fn say_refused(at: u64, number: u32) {
+pub(crate) fn say_refused(rt: &impl Print, at: u64, number: u32) -> io::Result<()> {
     let mut line = blank();
     put_verdict(&mut line, number);
     put_number(&mut line, OFFSET, at);
     put_strokes(&mut line);
     line[FINGERPRINT] = b'-';
-    say_line(&line, SHORT_LINE);
+    say_line(rt, &line, SHORT_LINE)
 }
 
 // The line of a report that was judged. There is a fingerprint where the PRK served for one.
-pub(crate) fn say(at: u64, read: Reading, judged: Judged) {
+pub(crate) fn say(rt: &impl Print, at: u64, read: Reading, judged: Judged) -> io::Result<()> {
     let fingerprint = judged.fingerprint;
     let mut line = blank();
     put_verdict(&mut line, judged.number);
@@ -151,9 +161,9 @@ pub(crate) fn say(at: u64, read: Reading, judged: Judged) {
     put_content(&mut line, read);
     if judged.number <= algorithm::TAG_DIFFERS {
         put_fingerprint(&mut line, fingerprint);
-        say_line(&line, LINE);
+        say_line(rt, &line, LINE)
     } else {
         line[FINGERPRINT] = b'-';
-        say_line(&line, SHORT_LINE);
+        say_line(rt, &line, SHORT_LINE)
     }
 }

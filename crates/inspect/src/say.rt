@@ -1,17 +1,17 @@
 // What the program writes, on standard output.
-use libc::STDOUT_FILENO;
+use std::io;
 
-pub(crate) fn text(words: &[u8]) {
-    io::write_all(STDOUT_FILENO, words);
+pub(crate) fn text(rt: &impl Print, words: &[u8]) -> io::Result<()> {
+    rt.write_all(words)
 }
 
-pub(crate) fn number(n: u64) {
-    io::print_decimal(STDOUT_FILENO, n);
+pub(crate) fn number(rt: &impl Print, n: u64) -> io::Result<()> {
+    print!(rt; "{n}")
 }
 
 // A number between words.
-pub(crate) fn sentence(before: &[u8], n: u64, after: &[u8]) {
-    text(before);
-    number(n);
-    text(after);
+pub(crate) fn sentence(rt: &impl Print, before: &[u8], n: u64, after: &[u8]) -> io::Result<()> {
+    text(rt, before)?;
+    number(rt, n)?;
+    text(rt, after)
 }

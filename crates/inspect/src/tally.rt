@@ -5,6 +5,7 @@ ghost use Rattle.inspect.specs.Tally.{Adds, live_with};
 
 use crate::say;
 use octets::Sum;
+use std::io;
 
 // More reports than any capture has; it keeps every count below 2^64.
 pub(crate) const MOST_REPORTS: u64 = 4503599627370496;
@@ -22,7 +23,7 @@ pub struct Tally {
 
 pub(crate) fn none() -> Tally
     ensures adds { Adds result }
-    ensures reports_value { result.reports ≡ 0 }
+    ensures reports { result.reports ≡ 0 }
 {
     Tally {
         at: 0,
@@ -40,11 +41,11 @@ pub(crate) fn none() -> Tally
 // The totals with one more report, of which the verdict's number, the live bytes and the size are known.
 pub(crate) fn counted(tally: Tally, number: u32, live: u64, size: usize) -> Tally
     requires adds { Adds tally }
-    requires reports_bound { tally.reports < 4503599627370496 }
-    requires size_le_largest_report { size ≤ largest_report }
-    ensures adds_2 { Adds result }
-    ensures reports_value { result.reports ≡ tally.reports + 1 }
-    ensures live_value { result.live ≡ live_with tally number live }
+    requires room { tally.reports < 4503599627370496 }
+    requires fits { size ≤ largest_report }
+    ensures adds { Adds result }
+    ensures reports { result.reports ≡ tally.reports + 1 }
+    ensures live { result.live ≡ live_with tally number live }
 {
     let mut next = tally;
     next.at += size as u64;
@@ -64,21 +65,24 @@ pub(crate) fn counted(tally: Tally, number: u32, live: u64, size: usize) -> Tall
     next
 }
 
-fn say_live(live: Sum) {
-    say::text(b"live bytes where the tag matches, retries counted as often as sent: ");
+fn say_live(rt: &impl Print, live: Sum) -> io::Result<()> {
+    say::text(
+        rt,
+        b"live bytes where the tag matches, retries counted as often as sent: ",
+    )?;
     if live.over {
-        say::text(b"over 18446744073709551615 (2^64 - 1)\n");
+        say::text(rt, b"over 18446744073709551615 (2^64 - 1)\n")
     } else {
-        say::number(live.total);
-        say::text(b"\n");
+        say::number(rt, live.total)?;
+        say::text(rt, b"\n")
     }
 }
 
-pub(crate) fn say(tally: Tally) {
+pub(crate) fn say(rt: &impl Print, tally: Tally) -> io::Result<()> {
     let live = tally.live;
-    say::sentence(b"\nreports: ", tally.reports, b"\n");
-    say::sentence(b"tag matches: ", tally.matching, b"\n");
-    say::sentence(b"tag differs: ", tally.differing, b"\n");
-    say::sentence(b"refused: ", tally.refused, b"\n");
-    say_live(live);
+    say::sentence(rt, b"\nreports: ", tally.reports, b"\n")?;
+    say::sentence(rt, b"tag matches: ", tally.matching, b"\n")?;
+    say::sentence(rt, b"tag differs: ", tally.differing, b"\n")?;
+    say::sentence(rt, b"refused: ", tally.refused, b"\n")?;
+    say_live(rt, live)
 }

@@ -3,6 +3,7 @@ ghost use Rattle.std.specs.Prelude.{◌≤◌, length};
 
 use crate::calls;
 use report::{Heading, Reading};
+use std::io;
 
 // The most sites of a report, and the most bytes of all its labels.
 const SITES: usize = 64;
@@ -16,12 +17,12 @@ fn as_length(n: usize) -> u32 {
 
 // The numbers of every site, and how many sites there are.
 fn gather_numbers(report: &[u8], lengths: &mut [u32], live: &mut [u64], blocks: &mut [u32]) -> usize
-    requires in_bounds { 64 ≤ length lengths.old }
-    requires in_bounds_2 { 64 ≤ length live.old }
-    requires in_bounds_3 { 64 ≤ length blocks.old }
-    ensures upper_bound { result ≤ length lengths.new }
-    ensures upper_bound_2 { result ≤ length live.new }
-    ensures upper_bound_3 { result ≤ length blocks.new }
+    requires room_for_lengths { 64 ≤ length lengths.old }
+    requires room_for_live { 64 ≤ length live.old }
+    requires room_for_blocks { 64 ≤ length blocks.old }
+    ensures in_lengths { result ≤ length lengths.new }
+    ensures in_live { result ≤ length live.new }
+    ensures in_blocks { result ≤ length blocks.new }
 {
     for place in 0..SITES {
         let site = report::site(report, place as u64);
@@ -75,7 +76,7 @@ fn heading(read: Reading) -> Heading {
 }
 
 // Writes a report again from its fields and sites.
-fn write_again(report: &[u8], key: &[u8], out: &mut [u8]) {
+fn write_again(rt: &impl Print, report: &[u8], key: &[u8], out: &mut [u8]) -> io::Result<()> {
     let mut labels = [0u8; LABELS];
     let mut lengths = [0u32; SITES];
     let mut live = [0u64; SITES];
@@ -83,6 +84,7 @@ fn write_again(report: &[u8], key: &[u8], out: &mut [u8]) {
     let size = gather_labels(report, &mut labels);
     let n = gather_numbers(report, &mut lengths, &mut live, &mut blocks);
     calls::write(
+        rt,
         heading(report::read(report)),
         &labels[0..size],
         &lengths[0..n],
@@ -90,11 +92,13 @@ fn write_again(report: &[u8], key: &[u8], out: &mut [u8]) {
         &blocks[0..n],
         key,
         out,
-    );
+    )?;
+    Ok(())
 }
 
 // Writes a report over `out`. Where it is not refused, its tag is checked, and it is read and written again over `second`.
 pub(crate) fn write_twice(
+    rt: &impl Print,
     heading: Heading,
     labels: &[u8],
     lengths: &[u32],
@@ -103,11 +107,12 @@ pub(crate) fn write_twice(
     key: &[u8],
     out: &mut [u8],
     second: &mut [u8],
-) {
-    let n = calls::write(heading, labels, lengths, live, blocks, key, out);
+) -> io::Result<()> {
+    let n = calls::write(rt, heading, labels, lengths, live, blocks, key, out)?;
     if n != 0 {
-        calls::check(&out[0..n], key);
-        calls::read(&out[0..n]);
-        write_again(&out[0..n], key, second);
+        calls::check(rt, &out[0..n], key)?;
+        calls::read(rt, &out[0..n])?;
+        write_again(rt, &out[0..n], key, second)?;
     }
+    Ok(())
 }

@@ -1,54 +1,68 @@
 // The calls on a report, each with a line on what it answers.
-ghost use Rattle.std.specs.Prelude.{◌≤◌, length};
+ghost use Rattle.std.specs.Prelude.{◌≤◌, length, IfOk};
 
 use crate::say;
 use report::Heading;
+use std::io;
 
-pub(crate) fn read(report: &[u8]) {
-    say::text(b"read: ");
-    say::reading(report::read(report));
+pub(crate) fn read(rt: &impl Print, report: &[u8]) -> io::Result<()> {
+    say::text(rt, b"read: ")?;
+    say::reading(rt, report::read(report))
 }
 
-fn label(report: &[u8], place: u64) {
+fn label(rt: &impl Print, report: &[u8], place: u64) -> io::Result<()> {
     let mut number = 0xa5u32;
     let bytes = report::label(report, place, &mut number);
-    say::number(number as u64);
-    say::text(b" ");
-    say::bytes(bytes);
+    say::number(rt, number as u64)?;
+    say::text(rt, b" ")?;
+    say::bytes(rt, bytes)
 }
 
 // The site and the label at a place.
-pub(crate) fn site(report: &[u8], place: u64) {
-    say::text(b"site ");
-    say::number(place);
-    say::text(b": ");
-    say::site(report::site(report, place));
-    say::text(b", label ");
-    label(report, place);
-    say::text(b"\n");
+pub(crate) fn site(rt: &impl Print, report: &[u8], place: u64) -> io::Result<()> {
+    say::text(rt, b"site ")?;
+    say::number(rt, place)?;
+    say::text(rt, b": ")?;
+    say::site(rt, report::site(report, place))?;
+    say::text(rt, b", label ")?;
+    label(rt, report, place)?;
+    say::text(rt, b"\n")
 }
 
-pub(crate) fn check(report: &[u8], key: &[u8]) {
-    say::text(b"check: ");
-    say::number(report::check(report, key) as u64);
-    say::text(b"\n");
+pub(crate) fn check(rt: &impl Print, report: &[u8], key: &[u8]) -> io::Result<()> {
+    say::text(rt, b"check: ")?;
+    say::number(rt, report::check(report, key) as u64)?;
+    say::text(rt, b"\n")
 }
 
-pub(crate) fn fingerprint(report: &[u8], key: &[u8], out: &mut [u8]) {
+pub(crate) fn fingerprint(
+    rt: &impl Print,
+    report: &[u8],
+    key: &[u8],
+    out: &mut [u8],
+) -> io::Result<()> {
     let number = report::fingerprint(report, key, out);
-    say::text(b"fingerprint: ");
-    say::answer(number as u64, out);
+    say::text(rt, b"fingerprint: ")?;
+    say::answer(rt, number as u64, out)
 }
 
-pub(crate) fn keys(hash_number: u32, prk: &[u8], tenant: u32, machine: u64, out: &mut [u8]) {
+pub(crate) fn keys(
+    rt: &impl Print,
+    hash_number: u32,
+    prk: &[u8],
+    tenant: u32,
+    machine: u64,
+    out: &mut [u8],
+) -> io::Result<()> {
     let answered = report::keys(hash_number, prk, tenant, machine, out);
-    say::text(b"keys: ");
-    say::answer(answered as u64, out);
+    say::text(rt, b"keys: ")?;
+    say::answer(rt, answered as u64, out)
 }
 
 // Writing, and how many bytes of the output are a report: none where it is refused. A length that the output does not have would
 // show in the line, and counts as none too.
 pub(crate) fn write(
+    rt: &impl Print,
     heading: Heading,
     labels: &[u8],
     lengths: &[u32],
@@ -56,12 +70,12 @@ pub(crate) fn write(
     blocks: &[u32],
     key: &[u8],
     out: &mut [u8],
-) -> usize
-    ensures { result ≤ length out.new }
+) -> io::Result<usize>
+    ensures { IfOk result (λ n. n ≤ length out.new) }
 {
     let written = report::write(heading, labels, lengths, live, blocks, key, out);
-    say::text(b"write: ");
-    say::written(written, out);
+    say::text(rt, b"write: ")?;
+    say::written(rt, written, out)?;
     let n = written.length;
-    if n <= out.len() { n } else { 0 }
+    Ok(if n <= out.len() { n } else { 0 })
 }

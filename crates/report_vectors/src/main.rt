@@ -8,16 +8,18 @@ mod input;
 mod ledgers;
 mod records;
 mod say;
-mod streams;
+
+use std::io;
 
 // A run ends after so many records.
 const MOST_RECORDS: usize = 65536;
 
-fn main() {
+fn main(rt: HostRuntime) -> io::Result<()> {
+    let mut records = rt.stdin();
     for _ in 0..MOST_RECORDS {
-        if !records::next() {
-            return;
+        if !records::next(&rt, &mut records)? {
+            return Ok(());
         }
     }
-    say::text(b"too many records\n");
+    say::text(&rt, b"too many records\n")
 }

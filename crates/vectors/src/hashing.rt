@@ -5,17 +5,20 @@ mod messages;
 mod runs;
 mod ways;
 
-pub(crate) fn run() {
-    edges::starts();
+use std::io;
+
+pub(crate) fn run(rt: &impl Print) -> io::Result<()> {
+    edges::starts(rt)?;
     for number in 1..3 {
-        messages::published(number);
-        messages::million(number);
-        messages::lengths(number);
-        runs::all(number);
-        edges::states(number);
-        edges::limit(number);
-        edges::large_counts(number);
-        edges::sizes(number);
-        edges::going_on(number);
+        messages::published(rt, number)?;
+        messages::million(rt, number)?;
+        messages::lengths(rt, number)?;
+        runs::all(rt, number)?;
+        edges::states(rt, number)?;
+        edges::limit(rt, number)?;
+        edges::large_counts(rt, number)?;
+        edges::sizes(rt, number)?;
+        edges::going_on(rt, number)?;
     }
+    Ok(())
 }

@@ -8,8 +8,10 @@ mod made;
 mod say;
 mod tagging;
 
-fn main() {
-    hashing::run();
-    tagging::run();
-    derivation::run();
+use std::io;
+
+fn main(rt: HostRuntime) -> io::Result<()> {
+    hashing::run(&rt)?;
+    tagging::run(&rt)?;
+    derivation::run(&rt)
 }

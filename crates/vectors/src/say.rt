@@ -3,109 +3,106 @@ use crate::made;
 use algorithm::Hash;
 use hash::State;
 use hmac::Keyed;
-use libc::STDOUT_FILENO;
+use std::io;
 
-pub(crate) fn text(words: &[u8]) {
-    io::write_all(STDOUT_FILENO, words);
+pub(crate) fn text(rt: &impl Print, words: &[u8]) -> io::Result<()> {
+    rt.write_all(words)
 }
 
-pub(crate) fn number(n: u64) {
-    io::print_decimal(STDOUT_FILENO, n);
+pub(crate) fn number(rt: &impl Print, n: u64) -> io::Result<()> {
+    print!(rt; "{n}")
 }
 
-fn as_number(byte: u8) -> u64 {
-    byte as u64
-}
-
-pub(crate) fn hex(bytes: &[u8]) {
-    for i in 0..bytes.len() {
-        io::print_hex(STDOUT_FILENO, as_number(bytes[i]), 2);
+pub(crate) fn hex(rt: &impl Print, bytes: &[u8]) -> io::Result<()> {
+    for byte in bytes {
+        print!(rt; "{byte:02x}")?;
     }
+    Ok(())
 }
 
-fn words(words: [u64; 8]) {
-    for i in 0..8 {
-        text(b" ");
-        io::print_hex(STDOUT_FILENO, words[i], 16);
+fn words(rt: &impl Print, words: [u64; 8]) -> io::Result<()> {
+    for word in words {
+        print!(rt; " {word:016x}")?;
     }
+    Ok(())
 }
 
-pub(crate) fn hash(hash: Hash) {
+pub(crate) fn hash(rt: &impl Print, hash: Hash) -> io::Result<()> {
     match hash {
-        Hash::Sha256 => text(b"SHA-256"),
-        Hash::Sha512 => text(b"SHA-512"),
+        Hash::Sha256 => text(rt, b"SHA-256"),
+        Hash::Sha512 => text(rt, b"SHA-512"),
     }
 }
 
 // HMAC over a hash.
-pub(crate) fn hmac(over: Hash) {
-    text(b"HMAC-");
-    hash(over);
+pub(crate) fn hmac(rt: &impl Print, over: Hash) -> io::Result<()> {
+    text(rt, b"HMAC-")?;
+    hash(rt, over)
 }
 
 // A whole state but for the end of its line.
-fn fields(state: State) {
+fn fields(rt: &impl Print, state: State) -> io::Result<()> {
     let h = state.hash;
     let ws = state.words;
     let w = state.waiting;
-    hash(h);
-    text(b" state, words");
-    words(ws);
-    text(b", count ");
-    number(state.count);
-    text(b", waiting ");
-    hex(&w);
+    hash(rt, h)?;
+    text(rt, b" state, words")?;
+    words(rt, ws)?;
+    text(rt, b", count ")?;
+    number(rt, state.count)?;
+    text(rt, b", waiting ")?;
+    hex(rt, &w)
 }
 
 // A whole state.
-pub(crate) fn state(state: State) {
-    fields(state);
-    text(b"\n");
+pub(crate) fn state(rt: &impl Print, state: State) -> io::Result<()> {
+    fields(rt, state)?;
+    text(rt, b"\n")
 }
 
 // A whole keyed state.
-pub(crate) fn keyed(keyed: Keyed) {
+pub(crate) fn keyed(rt: &impl Print, keyed: Keyed) -> io::Result<()> {
     let outer = keyed.outer;
-    text(b"HMAC-");
-    fields(made::inner(keyed));
-    text(b", outer words");
-    words(outer);
-    text(b", tag length ");
-    number(keyed.tag_length as u64);
-    text(b"\n");
+    text(rt, b"HMAC-")?;
+    fields(rt, made::inner(keyed))?;
+    text(rt, b", outer words")?;
+    words(rt, outer)?;
+    text(rt, b", tag length ")?;
+    number(rt, keyed.tag_length as u64)?;
+    text(rt, b"\n")
 }
 
-pub(crate) fn soundness(sound: bool) {
+pub(crate) fn soundness(rt: &impl Print, sound: bool) -> io::Result<()> {
     if sound {
-        text(b"  sound\n");
+        text(rt, b"  sound\n")
     } else {
-        text(b"  not sound\n");
+        text(rt, b"  not sound\n")
     }
 }
 
 // The number and the output of a call.
-pub(crate) fn answer(answered: u32, out: &[u8]) {
-    number(answered as u64);
-    text(b", ");
-    hex(out);
-    text(b"\n");
+pub(crate) fn answer(rt: &impl Print, answered: u32, out: &[u8]) -> io::Result<()> {
+    number(rt, answered as u64)?;
+    text(rt, b", ")?;
+    hex(rt, out)?;
+    text(rt, b"\n")
 }
 
 // The number that a piece got, and whether the state came back as it was.
-pub(crate) fn back(answered: u32, same: bool) {
-    number(answered as u64);
+pub(crate) fn back(rt: &impl Print, answered: u32, same: bool) -> io::Result<()> {
+    number(rt, answered as u64)?;
     if same {
-        text(b", the same state");
+        text(rt, b", the same state")
     } else {
-        text(b", another state");
+        text(rt, b", another state")
     }
 }
 
 // A line on a piece of some length, and what came back of it.
-pub(crate) fn update(length: usize, answered: u32, same: bool) {
-    text(b"  update, length ");
-    number(length as u64);
-    text(b": ");
-    back(answered, same);
-    text(b"\n");
+pub(crate) fn update(rt: &impl Print, length: usize, answered: u32, same: bool) -> io::Result<()> {
+    text(rt, b"  update, length ")?;
+    number(rt, length as u64)?;
+    text(rt, b": ")?;
+    back(rt, answered, same)?;
+    text(rt, b"\n")
 }

@@ -6,17 +6,20 @@ mod inputs;
 mod published;
 mod sizes;
 
-pub(crate) fn run() {
-    edges::starts();
+use std::io;
+
+pub(crate) fn run(rt: &impl Print) -> io::Result<()> {
+    edges::starts(rt)?;
     for number in 1..3 {
-        published::cases(number);
-        edges::lengths(number);
-        edges::keys(number);
-        edges::states(number);
-        edges::state_lengths(number);
-        edges::limit(number);
-        edges::large_counts(number);
-        sizes::rows(number);
-        comparison::rows(number);
+        published::cases(rt, number)?;
+        edges::lengths(rt, number)?;
+        edges::keys(rt, number)?;
+        edges::states(rt, number)?;
+        edges::state_lengths(rt, number)?;
+        edges::limit(rt, number)?;
+        edges::large_counts(rt, number)?;
+        sizes::rows(rt, number)?;
+        comparison::rows(rt, number)?;
     }
+    Ok(())
 }

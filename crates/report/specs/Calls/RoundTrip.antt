@@ -10,7 +10,7 @@ use Rattle.std.proofs.Math.ListN.{length-append, take-append-drop}
 use Rattle.std.proofs.lemmas.List.{length-map}
 use Rattle.octets.specs.Every.{every, all_bytes}
 use Rattle.octets.specs.Every.Laws.{and_parts, every_append, every_take, every_drop}
-use Rattle.octets.specs.Number.{number_at, bytes}
+use Rattle.octets.specs.Number.{number_at}
 use Rattle.octets.specs.Number.Spelled.{bytes_all}
 use Rattle.octets.specs.Sums.{sum_of, largest_total}
 use Rattle.algorithm.specs.Refusals.{done, unknown_hash}

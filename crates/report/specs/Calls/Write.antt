@@ -1,5 +1,5 @@
 -- Proved: laws of writing a report: what its checks say where they pass, and what the call answers once they are known. Assumes nothing.
-use Rattle.std.specs.Prelude.{◌≡◌, refl, ◌↔◌, true, ◌&&◌, List, [], ◌∷◌, ◌++◌, ℕ, ◌+◌, ◌≤◌, leb, eqb, length}
+use Rattle.std.specs.Prelude.{◌≡◌, refl, ◌↔◌, true, ◌&&◌, List, [], ◌∷◌, ◌++◌, ℕ, ◌≤◌, leb, eqb, length}
 use Rattle.std.proofs.Common.{sym, ap, ◌∙◌, leb-true, le-leb, eqb-true, eq-eqb}
 use Rattle.std.proofs.Math.Decide.{ℕ_discrete}
 use Rattle.octets.specs.Every.Laws.{and_parts}

@@ -4,71 +4,81 @@ ghost use Rattle.std.specs.Prelude.{◌≡◌, length};
 use crate::hashing::{calls, ways};
 use crate::{made, say};
 use algorithm::Hash;
+use std::io;
 
-fn head(hash: Hash, name: &[u8], size: usize) {
-    say::hash(hash);
-    say::text(b" of ");
-    say::text(name);
-    say::text(b", length ");
-    say::number(size as u64);
-    say::text(b", ");
+fn head(rt: &impl Print, hash: Hash, name: &[u8], size: usize) -> io::Result<()> {
+    say::hash(rt, hash)?;
+    say::text(rt, b" of ")?;
+    say::text(rt, name)?;
+    say::text(rt, b", length ")?;
+    say::number(rt, size as u64)?;
+    say::text(rt, b", ")
 }
 
-fn in_one_call(hash_number: u32, name: &[u8], message: &[u8]) {
+fn in_one_call(rt: &impl Print, hash_number: u32, name: &[u8], message: &[u8]) -> io::Result<()> {
     let hash = made::hash_of(hash_number);
-    head(hash, name, message.len());
-    say::text(b"in one call: ");
-    calls::digest(hash_number, message, algorithm::digest_size(hash));
+    head(rt, hash, name, message.len())?;
+    say::text(rt, b"in one call: ")?;
+    calls::digest(rt, hash_number, message, algorithm::digest_size(hash))
 }
 
-fn in_a_way(hash_number: u32, name: &[u8], message: &[u8], way: usize) {
+fn in_a_way(
+    rt: &impl Print,
+    hash_number: u32,
+    name: &[u8],
+    message: &[u8],
+    way: usize,
+) -> io::Result<()> {
     let hash = made::hash_of(hash_number);
-    head(hash, name, message.len());
-    ways::name(way);
-    say::text(b": ");
+    head(rt, hash, name, message.len())?;
+    ways::name(rt, way)?;
+    say::text(rt, b": ")?;
     let started = hash::start(hash_number);
     let state = ways::after(started.state, message, way);
-    calls::finish(state, algorithm::digest_size(hash));
+    calls::finish(rt, state, algorithm::digest_size(hash))
 }
 
 // A message in one call, and in every way for short messages.
-fn each(hash_number: u32, name: &[u8], message: &[u8]) {
-    in_one_call(hash_number, name, message);
+fn each(rt: &impl Print, hash_number: u32, name: &[u8], message: &[u8]) -> io::Result<()> {
+    in_one_call(rt, hash_number, name, message)?;
     for way in 0..ways::THOUSANDS {
-        in_a_way(hash_number, name, message, way);
+        in_a_way(rt, hash_number, name, message, way)?;
     }
+    Ok(())
 }
 
 // The examples of FIPS 180-4 and the empty message.
-pub(crate) fn published(hash_number: u32) {
-    each(hash_number, b"the empty message", b"");
-    each(hash_number, b"\"abc\"", b"abc");
+pub(crate) fn published(rt: &impl Print, hash_number: u32) -> io::Result<()> {
+    each(rt, hash_number, b"the empty message", b"")?;
+    each(rt, hash_number, b"\"abc\"", b"abc")?;
     if hash_number == 1 {
         each(
+            rt,
             hash_number,
             b"the message of two blocks",
             b"abcdbcdecdefdefgefghfghighijhijkijkljklmklmnlmnomnopnopq",
-        );
+        )
     } else {
         each(
+            rt,
             hash_number,
             b"the message of two blocks",
             b"abcdefghbcdefghicdefghijdefghijkefghijklfghijklmghijklmnhijklmnoijklmnopjklmnopqklmnopqrlmnopqrsmnopqrstnopqrstu",
-        );
+        )
     }
 }
 
 // A million letters a.
-pub(crate) fn million(hash_number: u32) {
+pub(crate) fn million(rt: &impl Print, hash_number: u32) -> io::Result<()> {
     let letters = [97u8; 1000000];
-    of_letters(hash_number, &letters);
+    of_letters(rt, hash_number, &letters)
 }
 
-fn of_letters(hash_number: u32, letters: &[u8; 1000000]) {
+fn of_letters(rt: &impl Print, hash_number: u32, letters: &[u8; 1000000]) -> io::Result<()> {
     let name = b"a million letters a";
-    in_one_call(hash_number, name, letters);
-    in_a_way(hash_number, name, letters, ways::WHOLE);
-    in_a_way(hash_number, name, letters, ways::THOUSANDS);
+    in_one_call(rt, hash_number, name, letters)?;
+    in_a_way(rt, hash_number, name, letters, ways::WHOLE)?;
+    in_a_way(rt, hash_number, name, letters, ways::THOUSANDS)
 }
 
 const LENGTHS: [usize; 17] = [
@@ -88,15 +98,17 @@ pub(crate) fn pattern() -> [u8; PATTERN]
     bytes
 }
 
-pub(crate) fn lengths(hash_number: u32) {
+pub(crate) fn lengths(rt: &impl Print, hash_number: u32) -> io::Result<()> {
     for i in 0..17 {
-        of_length(hash_number, LENGTHS[i]);
+        of_length(rt, hash_number, LENGTHS[i])?;
     }
+    Ok(())
 }
 
-fn of_length(hash_number: u32, n: usize) {
+fn of_length(rt: &impl Print, hash_number: u32, n: usize) -> io::Result<()> {
     let bytes = pattern();
     if n <= PATTERN {
-        each(hash_number, b"the pattern", &bytes[0..n]);
+        each(rt, hash_number, b"the pattern", &bytes[0..n])?;
     }
+    Ok(())
 }

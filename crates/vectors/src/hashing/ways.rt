@@ -3,6 +3,7 @@ ghost use Rattle.std.specs.Prelude.{◌≡◌, ◌<◌, min};
 
 use crate::{made, say};
 use hash::State;
+use std::io;
 
 // The lesser of two numbers.
 fn least(a: usize, b: usize) -> usize
@@ -49,17 +50,17 @@ pub(crate) const WHOLE: usize = 0;
 
 pub(crate) const THOUSANDS: usize = 8;
 
-pub(crate) fn name(way: usize) {
+pub(crate) fn name(rt: &impl Print, way: usize) -> io::Result<()> {
     match way {
-        0 => say::text(b"in one piece"),
-        1 => say::text(b"cut at 0"),
-        2 => say::text(b"cut at 1"),
-        3 => say::text(b"cut in the middle"),
-        4 => say::text(b"cut before the last byte"),
-        5 => say::text(b"byte by byte"),
-        6 => say::text(b"in pieces of 7"),
-        7 => say::text(b"in halves with an empty piece between"),
-        _ => say::text(b"in pieces of 1000"),
+        0 => say::text(rt, b"in one piece"),
+        1 => say::text(rt, b"cut at 0"),
+        2 => say::text(rt, b"cut at 1"),
+        3 => say::text(rt, b"cut in the middle"),
+        4 => say::text(rt, b"cut before the last byte"),
+        5 => say::text(rt, b"byte by byte"),
+        6 => say::text(rt, b"in pieces of 7"),
+        7 => say::text(rt, b"in halves with an empty piece between"),
+        _ => say::text(rt, b"in pieces of 1000"),
     }
 }
 

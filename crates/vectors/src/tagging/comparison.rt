@@ -1,6 +1,7 @@
 // Presented tags: right ones, wrong ones, and those of another length.
 use crate::tagging::{calls, inputs};
 use crate::{made, say};
+use std::io;
 
 // The length of the tag, how many bytes of the full tag (with a5 after it) are presented, and how many first ones are unchanged.
 const ROWS: [[usize; 3]; 32] = [
@@ -38,57 +39,80 @@ const ROWS: [[usize; 3]; 32] = [
     [65, 65, 64],
 ];
 
-pub(crate) fn rows(hash_number: u32) {
+pub(crate) fn rows(rt: &impl Print, hash_number: u32) -> io::Result<()> {
     for i in 0..32 {
-        row(hash_number, ROWS[i]);
+        row(rt, hash_number, ROWS[i])?;
     }
+    Ok(())
 }
 
 // Of the message "abc" under the key "Jefe".
-fn row(hash_number: u32, row: [usize; 3]) {
+fn row(rt: &impl Print, hash_number: u32, row: [usize; 3]) -> io::Result<()> {
     let full = inputs::full_tag(inputs::taken(hash_number));
     let unchanged = row[2];
     let bytes = inputs::agreeing(full, unchanged);
     let size = row[1];
     let tag_length = row[0];
     if size <= 66 {
-        head(hash_number, tag_length, size, unchanged);
-        by_message(hash_number, tag_length, &bytes[0..size]);
-        by_start(hash_number, tag_length, &bytes[0..size]);
-        by_state(hash_number, tag_length, &bytes[0..size]);
+        head(rt, hash_number, tag_length, size, unchanged)?;
+        by_message(rt, hash_number, tag_length, &bytes[0..size])?;
+        by_start(rt, hash_number, tag_length, &bytes[0..size])?;
+        by_state(rt, hash_number, tag_length, &bytes[0..size])?;
     }
+    Ok(())
 }
 
-fn head(hash_number: u32, tag_length: usize, size: usize, unchanged: usize) {
-    say::hmac(made::hash_of(hash_number));
-    say::text(b" of \"abc\", tag length ");
-    say::number(tag_length as u64);
-    say::text(b", presented ");
-    say::number(size as u64);
-    say::text(b" bytes, the first ");
-    say::number(unchanged as u64);
-    say::text(b" unchanged: ");
+fn head(
+    rt: &impl Print,
+    hash_number: u32,
+    tag_length: usize,
+    size: usize,
+    unchanged: usize,
+) -> io::Result<()> {
+    say::hmac(rt, made::hash_of(hash_number))?;
+    say::text(rt, b" of \"abc\", tag length ")?;
+    say::number(rt, tag_length as u64)?;
+    say::text(rt, b", presented ")?;
+    say::number(rt, size as u64)?;
+    say::text(rt, b" bytes, the first ")?;
+    say::number(rt, unchanged as u64)?;
+    say::text(rt, b" unchanged: ")
 }
 
-fn by_message(hash_number: u32, tag_length: usize, presented: &[u8]) {
-    calls::verify_message(hash_number, b"Jefe", b"abc", tag_length, presented);
-    say::text(b"  for hash 3: ");
-    calls::verify_message(3, b"Jefe", b"abc", tag_length, presented);
+fn by_message(
+    rt: &impl Print,
+    hash_number: u32,
+    tag_length: usize,
+    presented: &[u8],
+) -> io::Result<()> {
+    calls::verify_message(rt, hash_number, b"Jefe", b"abc", tag_length, presented)?;
+    say::text(rt, b"  for hash 3: ")?;
+    calls::verify_message(rt, 3, b"Jefe", b"abc", tag_length, presented)
 }
 
-fn by_start(hash_number: u32, tag_length: usize, presented: &[u8]) {
-    say::text(b"  by start and verify: ");
-    let keyed = calls::start(hash_number, b"Jefe", tag_length);
+fn by_start(
+    rt: &impl Print,
+    hash_number: u32,
+    tag_length: usize,
+    presented: &[u8],
+) -> io::Result<()> {
+    say::text(rt, b"  by start and verify: ")?;
+    let keyed = calls::start(rt, hash_number, b"Jefe", tag_length)?;
     let fed = hmac::update(keyed, b"abc");
-    say::text(b", then ");
-    calls::verify(fed.keyed, presented);
+    say::text(rt, b", then ")?;
+    calls::verify(rt, fed.keyed, presented)
 }
 
-fn by_state(hash_number: u32, tag_length: usize, presented: &[u8]) {
+fn by_state(
+    rt: &impl Print,
+    hash_number: u32,
+    tag_length: usize,
+    presented: &[u8],
+) -> io::Result<()> {
     let keyed = inputs::with_length(inputs::taken(hash_number), tag_length);
-    say::text(b"  by verify of a state with this length put in: ");
-    calls::verify(keyed, presented);
+    say::text(rt, b"  by verify of a state with this length put in: ")?;
+    calls::verify(rt, keyed, presented)?;
     let unsound = inputs::with_last(keyed, 1);
-    say::text(b"  by verify of a state that is not sound: ");
-    calls::verify(unsound, presented);
+    say::text(rt, b"  by verify of a state that is not sound: ")?;
+    calls::verify(rt, unsound, presented)
 }

@@ -1,5 +1,5 @@
 -- `hash::blocks::narrowed` copies one word a turn. Assumes nothing.
-use Rattle.std.proofs.Common.{◌-◌, ◌^◌, ltb, refl, arith, ltb-true}
+use Rattle.std.proofs.Common.{◌^◌, ltb, refl, arith, ltb-true}
 use Rattle.octets.specs.Every.Laws.{every_at}
 use Rattle.hash.proofs.Loops.{none, copy, copied}
 use Rattle.hash.proofs.blocks.narrowed.Goals as goal

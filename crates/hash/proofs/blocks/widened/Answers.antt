@@ -1,5 +1,5 @@
 -- `hash::blocks::widened` copies one word a turn. Assumes nothing.
-use Rattle.std.proofs.Common.{◌-◌, refl, arith}
+use Rattle.std.proofs.Common.{refl, arith}
 use Rattle.hash.proofs.Loops.{none, copy, copied}
 use Rattle.hash.proofs.blocks.widened.Goals as goal
 

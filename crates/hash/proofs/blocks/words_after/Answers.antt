@@ -1,8 +1,5 @@
 -- `hash::blocks::words_after` takes one run a turn. Assumes nothing.
-use Rattle.std.proofs.Common.{◌≡◌, ℕ, zero, suc, ◌+◌, ◌-◌, List, sym, refl, ap, ◌∙◌, add-one, arith, rules}
-use Rattle.algorithm.specs.declared.hashes.Hash.{Hash}
-use Rattle.algorithm.specs.Hashes.{block_of}
-use Rattle.hash.specs.Run.{Run}
+use Rattle.std.proofs.Common.{◌≡◌, ◌+◌, sym, refl, ap, ◌∙◌, add-one, arith, rules}
 use Rattle.hash.specs.State.{words_of}
 use Rattle.hash.specs.State.Laws.{words_fit}
 use Rattle.hash.proofs.TwoRuns.{run_at, words_at, run_at_lem}

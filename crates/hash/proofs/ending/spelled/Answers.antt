@@ -1,5 +1,5 @@
 -- `hash::ending::spelled`: one word a turn. Assumes nothing.
-use Rattle.std.proofs.Common.{ℕ, ◌-◌, ap, ◌∙◌, arith}
+use Rattle.std.proofs.Common.{ℕ, ap, ◌∙◌, arith}
 use Rattle.octets.specs.Zeros.{zeros_to}
 use Rattle.octets.specs.Number.Laws.{bytes_length}
 use Rattle.hash.specs.Sha2.{spell}

@@ -1,5 +1,5 @@
 -- `hash::narrow::after_run` takes one block a turn. Assumes nothing.
-use Rattle.std.proofs.Common.{◌-◌, arith, lit<, length-drop, length-take}
+use Rattle.std.proofs.Common.{arith, lit<, length-drop, length-take}
 use Rattle.hash.specs.Description.{narrow}
 use Rattle.hash.specs.Blocks.{words_after}
 use Rattle.hash.specs.Sha2.{block_size}

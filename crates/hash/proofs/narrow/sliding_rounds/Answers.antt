@@ -1,5 +1,5 @@
 -- `hash::narrow::sliding_rounds` makes eight rounds a turn. Assumes nothing.
-use Rattle.std.proofs.Common.{◌≡◌, ◌+◌, ◌-◌, ◌*◌, arith}
+use Rattle.std.proofs.Common.{◌≡◌, ◌+◌, ◌*◌, arith}
 use Rattle.hash.specs.Description.{narrow}
 use Rattle.hash.proofs.Ring.{progress_first, advanced_code}
 use Rattle.hash.proofs.narrow.sliding_rounds.Goals as goal

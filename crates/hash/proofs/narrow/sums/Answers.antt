@@ -1,5 +1,5 @@
 -- `hash::narrow::sums`: one word a turn. Assumes nothing.
-use Rattle.std.proofs.Common.{◌-◌, refl, ◌∙◌, arith}
+use Rattle.std.proofs.Common.{refl, ◌∙◌, arith}
 use Rattle.hash.specs.Description.{narrow}
 use Rattle.hash.proofs.Rounds.{sums_length, sums_at}
 use Rattle.hash.proofs.Loops.{none, copy, copied}

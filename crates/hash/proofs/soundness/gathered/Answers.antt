@@ -1,5 +1,5 @@
 -- `hash::soundness::gathered`: one word a turn. Assumes nothing.
-use Rattle.std.proofs.Common.{◌≡◌, ◌-◌, ◌^◌, Bool, ◌&&◌, ltb, length, get_or, sym, ap, ◌∙◌, arith, take_all, pow_pos, rules, lt-ltb}
+use Rattle.std.proofs.Common.{◌≡◌, ◌^◌, Bool, ◌&&◌, ltb, length, get_or, sym, ap, ◌∙◌, arith, take_all, pow_pos, rules, lt-ltb}
 use Rattle.octets.specs.Every.{every}
 use Rattle.octets.specs.Every.Laws.{every_more}
 use Rattle.hash.proofs.Word.{or_fits}

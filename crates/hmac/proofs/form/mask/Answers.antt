@@ -1,6 +1,5 @@
 -- `hmac::form::mask`: one byte a turn. Assumes nothing.
 use mathlib.Core.Path.{◌≡◌, refl, ◌∙◌}
-use Prim.Native.Nat.{◌-◌}
 use native.Mathlib.Omega.{arith}
 use Rattle.hmac.proofs.Buffers.{mask_more, mask_done}
 use Rattle.hmac.proofs.form.mask.Goals as goal

@@ -1,8 +1,7 @@
 -- `ledger::entering::enter`: the tally is that of the records, and the verdict says whether and where one is written. Assumes nothing.
-use Rattle.std.proofs.Common.{◌≡◌, ◌<◌, ◌≤◌, ℕ, Bool, true, false, cond, List, length, take, set, sym, ap, ◌∙◌, arith, rules}
+use Rattle.std.proofs.Common.{◌≡◌, ◌<◌, Bool, true, false, cond, List, length, take, set, sym, ap, ◌∙◌, rules}
 use Rattle.ledger.specs.Inside.{among, tally_of, decided_of, written_by, enter_of}
 use Rattle.ledger.proofs.Proved.Inside.Laws.{count_within, writes_within}
-use Rattle.ledger.specs.declared.answers.Answer.{Answer}
 use Rattle.ledger.specs.declared.deciding.Verdict.{Verdict}
 use Rattle.ledger.specs.declared.judging.Judged.{Judged}
 use Rattle.ledger.specs.declared.records.Record.{Record}

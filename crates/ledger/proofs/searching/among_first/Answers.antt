@@ -1,5 +1,5 @@
 -- `ledger::searching::among_first`: one record more a turn. Assumes nothing.
-use Rattle.std.proofs.Common.{[], ◌||◌, length, ◌<◌, sym, ap, ◌∙◌, arith, rules}
+use Rattle.std.proofs.Common.{[], ◌||◌, length, ◌<◌, sym, ◌∙◌, arith, rules}
 use Rattle.std.proofs.lemmas.List.{get_or_default}
 use Rattle.octets.specs.Same.{equal}
 use Rattle.ledger.specs.declared.records.Record.{Record}

@@ -1,5 +1,5 @@
 -- `ledger::submitting::submit`: the survey, the judgement and the entry together are what the definition says. Assumes nothing.
-use Rattle.std.proofs.Common.{List, ap, ◌∙◌}
+use Rattle.std.proofs.Common.{ap, ◌∙◌}
 use Rattle.ledger.specs.Inside.{judged_in, enter_of}
 use Rattle.ledger.specs.declared.surveying.Tally.{Tally}
 use Rattle.ledger.specs.declared.judging.Judged.{Judged}

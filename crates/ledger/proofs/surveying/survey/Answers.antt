@@ -1,5 +1,5 @@
 -- `ledger::surveying::survey`: one record more a turn. Assumes nothing.
-use Rattle.std.proofs.Common.{◌≡◌, ◌<◌, ◌≤◌, ℕ, [], cond, get_or, length, take, sym, ap, ◌∙◌, arith, rules, length-take-le}
+use Rattle.std.proofs.Common.{◌≡◌, ◌<◌, ◌≤◌, [], cond, get_or, length, take, sym, ap, ◌∙◌, arith, length-take-le}
 use Rattle.std.proofs.lemmas.List.{get_or_default}
 use Rattle.ledger.specs.declared.records.Record.{Record}
 use Rattle.ledger.specs.Records.{used, zero_record}

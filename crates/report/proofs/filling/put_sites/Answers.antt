@@ -1,5 +1,5 @@
 -- `report::filling::put_sites`: one site after the other. The loop's invariant says how far the sites are written. Assumes nothing.
-use Prim.Native.Nat.{◌-◌, ◌<◌}
+use Prim.Native.Nat.{◌<◌}
 use native.Mathlib.Omega.{arith}
 use lib.ListN.{length}
 use Rattle.report.specs.Writing.{columns}

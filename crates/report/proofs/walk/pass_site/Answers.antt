@@ -3,7 +3,7 @@ use mathlib.Core.Path.{refl}
 use Prim.Native.Nat.{◌+◌, ◌-◌, ◌≤◌, ◌<◌}
 use native.Mathlib.Omega.{arith}
 use lib.ListN.{length, get_or}
-use borrow.Author.Tests.{ltb-true, ltb-false}
+use borrow.Author.Tests.{ltb-false}
 use Rattle.algorithm.specs.Refusals.{sites_misplaced, label_length_out_of_range}
 use Rattle.report.proofs.Walking.{refused_step, none_left, no_label, long_label, no_room, fits}
 use Rattle.report.proofs.walk.pass_site.Goals.{then-size-lt1-via-then-size-lt1, then-size-lt1-via-else-size-lt1+then-size-gt-LONGEST_LABEL}

@@ -1,6 +1,6 @@
 -- `report::walk::walk_sites` meets its contract. The loop's invariant says how far the walk is. Assumes nothing.
 use mathlib.Core.Path.{sym, subst}
-use Prim.Native.Nat.{◌+◌, ◌-◌, ◌≤◌, ◌<◌}
+use Prim.Native.Nat.{◌+◌, ◌≤◌, ◌<◌}
 use native.Mathlib.Omega.{arith}
 use Rattle.octets.specs.Sums.{largest_total}
 use Rattle.octets.specs.declared.sums.Sum.{Sum}
