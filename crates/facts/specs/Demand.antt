@@ -1,5 +1,5 @@
 -- Believed: Demand 3, as one statement: which keys and reports share the padded blocks that the fingerprint's inner hash is fed, which
--- keys share a form, and that the tag is no field. Its proof is in Demand/Laws.antt. Assumes nothing.
+-- keys share a form, and that the tag is no field. Its proof is in proofs/Proved/Demand/Laws.antt. Assumes nothing.
 use Rattle.std.specs.Prelude.{◌≡◌, ◌↔◌, List, ℕ, ◌≤◌, ◌<◌, length}
 use Rattle.algorithm.specs.declared.hashes.Hash.{Hash}
 use Rattle.algorithm.specs.Hashes.{block_of}

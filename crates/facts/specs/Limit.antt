@@ -1,5 +1,5 @@
 -- Believed: both sides of the limit on hashed bytes, with the number written out and for every length. No run can feed that many bytes.
--- The proof is in Limit/Laws.antt. Assumes nothing.
+-- The proof is in proofs/Proved/Limit/Laws.antt. Assumes nothing.
 use Rattle.std.specs.Prelude.{◌≡◌, ◌↔◌, true, false, ◌&&◌, cond, List, ℕ, ◌+◌, ◌*◌, ◌^◌, ◌≤◌, ◌<◌, length, drop}
 use Rattle.octets.specs.Every.{all_zero}
 use Rattle.octets.specs.Same.{equal}

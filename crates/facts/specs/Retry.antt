@@ -1,5 +1,5 @@
 -- Believed: what a retry keeps and what it changes. The fingerprint stays; the bytes that the tag covers change with the send time and
--- the attempt. The proof is in Retry/Laws.antt. Assumes nothing.
+-- the attempt. The proof is in proofs/Proved/Retry/Laws.antt. Assumes nothing.
 use Rattle.std.specs.Prelude.{◌≡◌, ◌↔◌, List, ◌∷◌, ◌++◌, ℕ, replicate}
 use Rattle.report.specs.Layout.{AgreeButSendTimeAndAttempt}
 use Rattle.report.specs.Reading.{before_tag, read_of, WellFormed}

@@ -1,5 +1,5 @@
 -- Believed: the twelve starred cases, as one table: the pads and the worked report take two fields each. Its proof is in
--- Starred/Laws.antt. Assumes nothing.
+-- proofs/Proved/Starred/Laws.antt. Assumes nothing.
 use Rattle.std.specs.Prelude.{◌≡◌, List, [], ◌∷◌, ◌++◌, ℕ, ◌^◌, length, take, replicate}
 use Rattle.algorithm.specs.declared.hashes.Hash.{Hash}
 use Rattle.algorithm.specs.declared.hashes.Hash.TheVariants.{Sha256, Sha512}

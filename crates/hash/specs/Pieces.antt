@@ -1,5 +1,5 @@
 -- Believed: a run of pieces of a message: the call that is given each of them, as algorithm's runs take it. The laws are in
--- Pieces/Laws.antt. Assumes nothing.
+-- proofs/Proved/Pieces/Laws.antt. Assumes nothing.
 use Rattle.std.specs.Prelude.{ℕ, List}
 use Rattle.algorithm.specs.Pieces.{Work}
 use Rattle.hash.specs.State.{Held, after_of}

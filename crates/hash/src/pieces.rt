@@ -14,8 +14,8 @@ use algorithm::Hash;
 
 // The state after a piece that fills no block.
 fn appended(state: State, at: usize, piece: &[u8]) -> State
-    requires piece_bound { at + length piece.now ≤ largest_block }
-    requires piece_bound_2 { state.count + length piece.now ≤ most_bytes }
+    requires room { at + length piece.now ≤ largest_block }
+    requires fits { state.count + length piece.now ≤ most_bytes }
     ensures { result ≡ with_waiting state (paste state.waiting at piece.now (length piece.now)) (length piece.now) }
 {
     let mut waiting = state.waiting;

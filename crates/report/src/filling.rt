@@ -92,8 +92,8 @@ fn site_numbers(live: u64, blocks: u32) -> [u8; 12]
 
 // A site: the length of its label, the label, its numbers.
 fn put_site(label: &[u8], live: u64, blocks: u32, out: &mut [u8])
-    requires label_len_bound { length label.now ≤ 48 }
-    requires label_in_bounds { length label.now + 13 ≤ length out.old }
+    requires short { length label.now ≤ 48 }
+    requires room { length label.now + 13 ≤ length out.old }
     ensures { out.new ≡ over (site_bytes (site_from label.now live blocks)) out.old }
 {
     let size = [label.len() as u8];

@@ -11,8 +11,8 @@ fn as_number(b: u8) -> u64
 
 // The number of `size` bytes from `at` on.
 pub(crate) fn number_at(bytes: &[u8], at: usize, size: usize) -> u64
-    requires size_in_bounds { at + size ≤ length bytes.now }
-    requires size_bound { size ≤ 8 }
+    requires within { at + size ≤ length bytes.now }
+    requires short { size ≤ 8 }
     ensures { NumberIs bytes.now at size result }
 {
     let mut n: u64 = 0;

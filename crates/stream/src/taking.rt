@@ -44,7 +44,7 @@ fn later(fed: Fed, before: usize) -> Fed
 // Four bytes at least are collected: up to their total.
 fn take_body(collected: usize, buffer: &mut [u8], piece: &[u8]) -> Fed
     requires waiting { Waiting collected buffer.old }
-    requires le_collected { 4 ≤ collected }
+    requires head_collected { 4 ≤ collected }
     ensures { TakeOutcome collected buffer.old piece.now result buffer.new }
 {
     let total = total_of(&buffer[..collected]);
@@ -59,7 +59,7 @@ fn take_body(collected: usize, buffer: &mut [u8], piece: &[u8]) -> Fed
 // Fewer than four bytes are collected: up to the fourth, and on with the rest of the piece where their total is in range.
 fn take_head(collected: usize, buffer: &mut [u8], piece: &[u8]) -> Fed
     requires waiting { Waiting collected buffer.old }
-    requires collected_bound { collected < 4 }
+    requires head_waits { collected < 4 }
     ensures { TakeOutcome collected buffer.old piece.now result buffer.new }
 {
     let to_fourth = COUNT - collected;

@@ -14,8 +14,8 @@ pub returns : goal.returns
 returns c =
     let label : List ℕ = c.args.label.now in
     let out : List ℕ = c.args.out.now in
-    let short : length label ≤ 48 = c.requires.label_len_bound in
-    let room : length label + 13 ≤ length out = c.requires.label_in_bounds in
+    let short : length label ≤ 48 = c.requires.short in
+    let room : length label + 13 ≤ length out = c.requires.room in
     let numbers = c.site_numbers-numbers in
     let twelve : length numbers.result ≡ 12 = ap length numbers.ensures ∙ numbers_length c.args.live c.args.blocks in
     let first : List ℕ = length label ∷ [] in

@@ -25,17 +25,17 @@ pub returns-then-piece-to_fourth : goal.returns-then-piece-to_fourth
 returns-then-piece-to_fourth c =
     let col = c.collect in
     ap (λ (f : Fed). (f, col.new.buffer)) c.more.ensures
-    ∙ head_more c.args.collected c.args.buffer.now c.args.piece.now c.requires.waiting c.requires.collected_bound col.new.buffer col.ensures (omega arith)
+    ∙ head_more c.args.collected c.args.buffer.now c.args.piece.now c.requires.waiting c.requires.head_waits col.new.buffer col.ensures (omega arith)
 
 pub slice_bounds-total_of-end-2 : goal.slice_bounds-total_of-end-2
 slice_bounds-total_of-end-2 c =
     let col = c.collect in
-    sym (length-take-le 4 col.new.buffer (omega (arith, after_length c.args.collected c.args.buffer.now c.args.piece.now c.requires.waiting c.requires.collected_bound col.new.buffer col.ensures (omega arith))))
+    sym (length-take-le 4 col.new.buffer (omega (arith, after_length c.args.collected c.args.buffer.now c.args.piece.now c.requires.waiting c.requires.head_waits col.new.buffer col.ensures (omega arith))))
 
 pub total_of-total-requires : goal.total_of-total-requires
 total_of-total-requires c =
     let col = c.collect in
-    omega (arith, length-take-le 4 col.new.buffer (omega (arith, after_length c.args.collected c.args.buffer.now c.args.piece.now c.requires.waiting c.requires.collected_bound col.new.buffer col.ensures (omega arith))))
+    omega (arith, length-take-le 4 col.new.buffer (omega (arith, after_length c.args.collected c.args.buffer.now c.args.piece.now c.requires.waiting c.requires.head_waits col.new.buffer col.ensures (omega arith))))
 
 pub returns-then-not-in_range : goal.returns-then-not-in_range
 returns-then-not-in_range c =
@@ -43,14 +43,14 @@ returns-then-not-in_range c =
     let total = c.total_of-total in
     let out : in_range total.result ≡ false = sym c.in_range.ensures ∙ c.if-not-in_range.true in
     ap (λ (f : Fed). (f, col.new.buffer)) c.closing.ensures
-    ∙ head_closing c.args.collected c.args.buffer.now c.args.piece.now c.requires.waiting c.requires.collected_bound col.new.buffer col.ensures (omega arith) total.result total.ensures out
+    ∙ head_closing c.args.collected c.args.buffer.now c.args.piece.now c.requires.waiting c.requires.head_waits col.new.buffer col.ensures (omega arith) total.result total.ensures out
 
 pub take_body-fed-requires : goal.take_body-fed-requires
 take_body-fed-requires c =
     let col = c.collect in
     let total = c.total_of-total in
     let in_it : in_range total.result ≡ true = sym c.in_range.ensures ∙ c.if-not-in_range.false in
-    record { waiting = head_waiting c.args.collected c.args.buffer.now c.args.piece.now c.requires.waiting c.requires.collected_bound col.new.buffer col.ensures (omega arith) total.result total.ensures in_it; le_collected = search rules }
+    record { waiting = head_waiting c.args.collected c.args.buffer.now c.args.piece.now c.requires.waiting c.requires.head_waits col.new.buffer col.ensures (omega arith) total.result total.ensures in_it; head_collected = search rules }
 
 pub later-requires : goal.later-requires
 unfolding rest
@@ -60,7 +60,7 @@ later-requires c =
     let in_it : in_range total.result ≡ true = sym c.in_range.ensures ∙ c.if-not-in_range.false in
     let body = c.take_body-fed in
     let p = c.args.piece.now in
-    omega (arith, head_used c.args.collected c.args.buffer.now c.args.piece.now c.requires.waiting c.requires.collected_bound col.new.buffer col.ensures (omega arith) total.result total.ensures in_it (rest c.args.collected p) body.result body.new.buffer (rest_is c.args.collected p) body.ensures)
+    omega (arith, head_used c.args.collected c.args.buffer.now c.args.piece.now c.requires.waiting c.requires.head_waits col.new.buffer col.ensures (omega arith) total.result total.ensures in_it (rest c.args.collected p) body.result body.new.buffer (rest_is c.args.collected p) body.ensures)
 
 pub returns : goal.returns
 unfolding rest
@@ -71,4 +71,4 @@ returns c =
     let body = c.take_body-fed in
     let p = c.args.piece.now in
     ap (λ (f : Fed). (f, body.new.buffer)) c.later.ensures
-    ∙ head_on c.args.collected c.args.buffer.now c.args.piece.now c.requires.waiting c.requires.collected_bound col.new.buffer col.ensures (omega (arith, c.if-piece-to_fourth.false)) total.result total.ensures in_it (rest c.args.collected p) body.result body.new.buffer (rest_is c.args.collected p) body.ensures
+    ∙ head_on c.args.collected c.args.buffer.now c.args.piece.now c.requires.waiting c.requires.head_waits col.new.buffer col.ensures (omega (arith, c.if-piece-to_fourth.false)) total.result total.ensures in_it (rest c.args.collected p) body.result body.new.buffer (rest_is c.args.collected p) body.ensures
