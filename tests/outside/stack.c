@@ -84,7 +84,7 @@ static const struct {
     {"tirmuzzle_report_write", write, 0, 4584},
     {"tirmuzzle_report_fingerprint", fingerprint, 0, 4312},
     {"tirmuzzle_digest", digest, 0, 2360},
-    {"tirmuzzle_report_keys", keys, 0, 4920},
+    {"tirmuzzle_report_keys", keys, 0, 4848},
     {"tirmuzzle_report_check", check, 1, 4488},
     {"tirmuzzle_report_read", read, 0, 512},
     {"tirmuzzle_report_site", site, 0, 512},

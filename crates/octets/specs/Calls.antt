@@ -1,5 +1,5 @@
--- Believed: what each public function promises: the outcome predicate that its contract cites. Calls/Unique.antt shows that no second
--- outcome meets it. Assumes nothing.
+-- Believed: what each public function promises: the outcome predicate that its contract cites. proofs/Proved/Calls/Unique.antt shows
+-- that no second outcome meets it. Assumes nothing.
 use Rattle.std.specs.Prelude.{◌≡◌, Bool, List, ℕ}
 use Rattle.octets.specs.Copy.{over}
 use Rattle.octets.specs.Every.{all_zero}
