@@ -26,7 +26,7 @@ import sys
 import tempfile
 
 ROOT = pathlib.Path(__file__).resolve().parent.parent
-HEAD = re.compile(r"# (\w+), in (?:([a-z_0-9:]+)|a definition, against ([\w-]+)): .+")
+HEAD = re.compile(r"# (\w+), in (?:([A-Za-z_0-9:]+)|a definition, against ([\w-]+)): .+")
 NAME_GONE = re.compile(r"has no field|is not in scope|has no `|, was not checked: ")
 MOST_CHECKS = 4  # at the same time: each takes a processor, and 1 to 3 GB
 

@@ -1,11 +1,11 @@
 -- Believed: the hashes that we make: their numbers, their sizes (docs/PROTOCOL.md, "The hashes"), and the lengths of their tags ("Keys
 -- and tags"). Assumes nothing.
 pub mod Laws
-use Rattle.std.specs.Prelude.{◌≡◌, Bool, cond, ◌&&◌, ◌||◌, ℕ, ◌*◌, ◌≤◌, ◌<◌, eqb, leb}
+use Rattle.std.specs.Prelude.{◌≡◌, Bool, cond, ◌&&◌, ◌||◌, ℕ, ◌*◌, ◌≤◌, ◌<◌, eqb, leb, Result, Ok, Err}
 use Rattle.algorithm.specs.declared.hashes.Hash.{Hash}
 use Rattle.algorithm.specs.declared.hashes.Hash.TheVariants.{Sha256, Sha512}
-use Rattle.algorithm.specs.declared.hashes.Named.{Named}
-use Rattle.algorithm.specs.declared.hashes.Named.TheVariants.{Is, Unknown}
+use Rattle.algorithm.specs.declared.refusals.Refusal.{Refusal}
+use Rattle.algorithm.specs.declared.refusals.Refusal.TheVariants.{UnknownHash}
 
 -- the number that names a hash
 abbrev pub hash_number : Hash → ℕ
@@ -39,9 +39,9 @@ names n = eqb n (hash_number Sha256) || eqb n (hash_number Sha512)
 abbrev pub hash_of : ℕ → Hash
 hash_of n = cond (eqb n (hash_number Sha512)) Sha512 Sha256
 
--- what `which` answers
-abbrev pub which_of : ℕ → Named
-which_of n = cond (names n) (Is (hash_of n)) Unknown
+-- what asking for the hash of a number answers
+abbrev pub which_of : ℕ → Result Hash Refusal
+which_of n = cond (names n) (Ok (hash_of n)) (Err UnknownHash)
 
 -- what is known of the sizes of a hash: the shortest tag is half a digest, a digest has a byte and fits a block, and the largest of both
 pub record Sizes (h : Hash) : Type 0 where

@@ -1,27 +1,26 @@
 // The hashes that we make: their numbers and their sizes.
 ghost use Rattle.algorithm.specs.Calls.{WhichOutcome, BlockSizeOutcome, DigestSizeOutcome, ShortestTagOutcome};
 
-#[derive(Clone, Copy)]
+use crate::refusals::Refusal;
+
+#[derive(Clone, Copy, Debug, PartialEq, Eq)]
 pub enum Hash {
     Sha256,
     Sha512,
 }
 
-// What a number names.
-#[derive(Clone, Copy)]
-pub enum Named {
-    Is(Hash),
-    Unknown,
-}
+// The hash that a number names; 2 where it names none.
+impl TryFrom<u32> for Hash {
+    type Error = Refusal;
 
-// The hash that a number names.
-pub fn which(hash_number: u32) -> Named
-    ensures { WhichOutcome hash_number result }
-{
-    match hash_number {
-        1 => Named::Is(Hash::Sha256),
-        2 => Named::Is(Hash::Sha512),
-        _ => Named::Unknown,
+    ghost try_from_gives = { WhichOutcome };
+
+    fn try_from(hash_number: u32) -> Result<Self, Refusal> {
+        match hash_number {
+            1 => Ok(Hash::Sha256),
+            2 => Ok(Hash::Sha512),
+            _ => Err(Refusal::UnknownHash),
+        }
     }
 }
 

@@ -1,6 +1,6 @@
 -- Laws of the end as the code makes it: where the padding ends, the last blocks, and the digest of the last words.
 -- Assumes nothing.
-use Rattle.std.proofs.Common.{◌≡◌, ℕ, zero, suc, ◌+◌, ◌-◌, ◌*◌, ◌%◌, ◌^◌, ◌<◌, ◌≤◌, List, [], ◌∷◌, ◌++◌, length, get_or, take, drop, set, replicate, sym, refl, ap, ◌∙◌, append_assoc, append-nil, zero-le, le_of_suc-le-suc, not-suc-le-zero, mul-le-mul_right, add-one, arith, length-append, length-take-le, take_all}
+use Rattle.std.proofs.Common.{◌≡◌, ℕ, zero, suc, ◌+◌, ◌-◌, ◌*◌, ◌%◌, ◌^◌, ◌<◌, ◌≤◌, List, [], ◌∷◌, ◌++◌, length, get_or, take, drop, set, replicate, sym, ap, ◌∙◌, append_assoc, append-nil, le_of_suc-le-suc, not-suc-le-zero, mul-le-mul_right, add-one, arith, length-append, length-take-le}
 use native.Mathlib.Nat.{div-eq_of_lt}
 use native.Mathlib.Decide.{dec_le}
 use lib.ListN.{length-replicate, replicate-append-replicate}
@@ -8,7 +8,7 @@ use lib.Seq.{take-append-add, take-append_seam, take-length, drop-append-add, se
 use Rattle.octets.specs.Copy.{over}
 use Rattle.octets.specs.Every.Laws.{drop_zeros}
 use Rattle.octets.specs.Zeros.{zeros_to}
-use Rattle.octets.specs.Zeros.Laws.{over_buffer, zeros_length}
+use Rattle.octets.specs.Zeros.Laws.{over_buffer}
 use Rattle.octets.specs.Number.{bytes}
 use Rattle.octets.specs.Number.Laws.{bytes_length, bytes_add, bytes_zero, bytes_last}
 use Rattle.octets.specs.Parts.{part_all, take_pasted, paste_zeros, take_replicate}
@@ -151,40 +151,20 @@ paste_more n l q =
     in
     λ i. (take-append_seam l z i ++ take-length q i) ++ d i
 
--- how far the words are written: the first i of them, k bytes each, over zeros
-pub record Spelled (k : ℕ) (ws out : List ℕ) (i : ℕ) : Type 0 where
-  pub within : i ≤ 8
-  pub size : length out ≡ 64
-  pub is : out ≡ zeros_to 64 (spell k (take i ws))
-
-pub start : (k : ℕ) (ws : List ℕ) → Spelled k ws (replicate 64 0) 0
-unfolding spell
-start k ws = record { within = zero-le; size = refl; is = refl }
-
 -- each word has its place
 pub room : (k i : ℕ) → k ≤ 8 → i < 8 → i * k + k ≤ 64
 room k i s h = omega (arith, mul-le-mul_right k h)
 
-module _ {k : ℕ} {ws : List ℕ} where
-  pub more : {out p q : List ℕ} {i : ℕ} → k ≤ 8 → length ws ≡ 8 → Spelled k ws out i → i < 8 → q ≡ bytes k (get_or ws i 0)
-      → p ≡ paste out (i * k) q (length q) → Spelled k ws p (i + 1)
-  more {p = p} {q} {i} small eight c h eq ep =
-      let l : List ℕ = spell k (take i ws) in
-      let n : length l ≡ i * k = spell_length k (take i ws) ∙ ap (λ (j : ℕ). j * k) (length-take-le i ws (omega arith)) in
-      let e : p ≡ zeros_to 64 (l ++ q) = ep ∙ (λ j. paste (c.is j) (sym n j) q (length q)) ∙ paste_more 64 l q in
-      let lq : length q ≡ k = ap length eq ∙ bytes_length k (get_or ws i 0) in
-      let fits : length (l ++ q) ≤ 64 = omega (arith, length-append l q, room k i small h) in
-      record {
-        within = omega arith;
-        size = ap length e ∙ zeros_length 64 (l ++ q) fits;
-        is =
-            e
-            ∙ ap (zeros_to 64)
-            (ap (λ (r : List ℕ). l ++ r) eq ∙ sym (spell_next k ws i (omega arith)) ∙ ap (λ (j : ℕ). spell k (take j ws)) (sym (add-one i)));
-      }
-
-  pub all : {out : List ℕ} {i : ℕ} → length ws ≡ 8 → Spelled k ws out i → 8 ≤ i → out ≡ zeros_to 64 (spell k ws)
-  all {i = i} eight c e = c.is ∙ ap (λ (l : List ℕ). zeros_to 64 (spell k l)) (take_all i ws (omega arith))
+-- one word more, k bytes of it, after the first i of them over zeros
+pub more : (k : ℕ) (ws : List ℕ) {i : ℕ} {out p q : List ℕ} → i < length ws → out ≡ zeros_to 64 (spell k (take i ws)) → q ≡ bytes k (get_or ws i 0)
+    → p ≡ paste out (i * k) q (length q) → p ≡ zeros_to 64 (spell k (take (i + 1) ws))
+more k ws {i} {q = q} h e eq ep =
+    let l : List ℕ = spell k (take i ws) in
+    let n : length l ≡ i * k = spell_length k (take i ws) ∙ ap (λ (j : ℕ). j * k) (length-take-le i ws (omega arith)) in
+    ep
+    ∙ (λ j. paste (e j) (sym n j) q (length q))
+    ∙ paste_more 64 l q
+    ∙ ap (zeros_to 64) (ap (λ (r : List ℕ). l ++ r) eq ∙ sym (spell_next k ws i h) ∙ ap (λ (j : ℕ). spell k (take j ws)) (sym (add-one i)))
 
 -- what the output takes of them is the digest
 pub digest_over : (s : State) (ws out : List ℕ) → length ws ≡ 8 → length out ≡ size_of s.hash → ws ≡ last_words s

@@ -4,6 +4,7 @@ pub mod Numbers
 pub mod Schedule
 pub mod Rounds
 pub mod Ring
+pub mod Sizes
 pub mod Tables
 pub mod Loops
 pub mod LastBlocks

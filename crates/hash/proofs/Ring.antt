@@ -1,9 +1,11 @@
 -- The rounds over a ring of sixteen words are those over the whole schedule, over the core of a hash. Assumes nothing.
-use Rattle.std.proofs.Common.{◌≡◌, ℕ, zero, suc, ◌+◌, ◌-◌, ◌≤◌, List, [], ◌∷◌, ◌++◌, length, get_or, drop, sym, refl, ap, ◌∙◌, ap₂, add-zero, add-one, arith, get_or-drop, drop-drop}
+use Rattle.std.proofs.Common.{◌≡◌, ℕ, zero, suc, ◌+◌, ◌-◌, ◌≤◌, List, [], ◌∷◌, ◌++◌, length, get_or, drop, map, sym, refl, ap, ◌∙◌, ap₂, add-zero, add-one, arith, lit<, get_or-drop, drop-drop}
+use Rattle.std.proofs.lemmas.List.{length-map}
 use lib.Seq.{drop-append-le}
 use Rattle.hash.specs.Description.{Core}
 use Rattle.hash.specs.Sha2.{words, mix, next, schedule, rounds}
 use Rattle.hash.specs.Ring.{sliding_rounds, round_at, rounds_over, slide, advance, advanced, progress_at}
+use Rattle.hash.proofs.Rounds.{at}
 use Rattle.hash.proofs.Schedule.{schedule_length, stays}
 
 -- the first n values of a function
@@ -17,14 +19,33 @@ listed_all [] = refl
 listed_all (x ∷ l) = ap (λ (m : List ℕ). x ∷ m) (listed_all l)
 
 module _ (C : Core) where
-  -- the array that the code makes of a ring x and the new word
-  pub slide_code : (x : List ℕ) {y : ℕ} → length x ≡ 16 → y ≡ mix C (get_or x 14 0) (get_or x 9 0) (get_or x 1 0) (get_or x 0 0)
-      → get_or x 1 0 ∷ get_or x 2 0 ∷ get_or x 3 0 ∷ get_or x 4 0 ∷ get_or x 5 0 ∷ get_or x 6 0 ∷ get_or x 7 0 ∷ get_or x 8 0 ∷ get_or x 9 0
-      ∷ get_or x 10 0 ∷ get_or x 11 0 ∷ get_or x 12 0 ∷ get_or x 13 0 ∷ get_or x 14 0 ∷ get_or x 15 0 ∷ y ∷ [] ≡ slide C x
+  -- the array that the code makes of a ring x of words and the new word
+  pub slide_code : {W : Type 0} (value : W → ℕ) (x : List W) → length x ≡ 16
+      → (d1 d2 d3 d4 d5 d6 d7 d8 d9 d10 d11 d12 d13 d14 d15 m0 m1 m9 m14 : W) {y : ℕ}
+      → y ≡ mix C (value (get_or x 14 m14)) (value (get_or x 9 m9)) (value (get_or x 1 m1)) (value (get_or x 0 m0))
+      → value (get_or x 1 d1) ∷ value (get_or x 2 d2) ∷ value (get_or x 3 d3) ∷ value (get_or x 4 d4) ∷ value (get_or x 5 d5)
+      ∷ value (get_or x 6 d6) ∷ value (get_or x 7 d7) ∷ value (get_or x 8 d8) ∷ value (get_or x 9 d9) ∷ value (get_or x 10 d10)
+      ∷ value (get_or x 11 d11) ∷ value (get_or x 12 d12) ∷ value (get_or x 13 d13) ∷ value (get_or x 14 d14) ∷ value (get_or x 15 d15) ∷ y ∷ []
+      ≡ slide C (map value x)
   unfolding slide listed
-  slide_code x e f =
-      let all : listed (λ i. get_or x i 0) 16 ≡ x = ap (listed (λ i. get_or x i 0)) (sym e) ∙ listed_all x in
-      ap₂ (λ (l : List ℕ) (y : ℕ). drop 1 l ++ (y ∷ [])) all f
+  slide_code value x e d1 d2 d3 d4 d5 d6 d7 d8 d9 d10 d11 d12 d13 d14 d15 m0 m1 m9 m14 f =
+      let l : List ℕ = map value x in
+      let len : length l ≡ 16 = length-map x value ∙ e in
+      let all : listed (λ i. get_or l i 0) 16 ≡ l = ap (listed (λ i. get_or l i 0)) (sym len) ∙ listed_all l in
+      let made : ℕ = mix C (get_or l 14 0) (get_or l 9 0) (get_or l 1 0) (get_or l 0 0) in
+      let new : mix C (value (get_or x 14 m14)) (value (get_or x 9 m9)) (value (get_or x 1 m1)) (value (get_or x 0 m0)) ≡ made =
+      λ i.
+      mix C (at value x e 14 m14 (lit< tt) i) (at value x e 9 m9 (lit< tt) i) (at value x e 1 m1 (lit< tt) i)
+      (at value x e 0 m0 (lit< tt) i)
+      in
+      (λ i.
+      at value x e 1 d1 (lit< tt) i ∷ at value x e 2 d2 (lit< tt) i ∷ at value x e 3 d3 (lit< tt) i
+      ∷ at value x e 4 d4 (lit< tt) i ∷ at value x e 5 d5 (lit< tt) i ∷ at value x e 6 d6 (lit< tt) i
+      ∷ at value x e 7 d7 (lit< tt) i ∷ at value x e 8 d8 (lit< tt) i ∷ at value x e 9 d9 (lit< tt) i
+      ∷ at value x e 10 d10 (lit< tt) i ∷ at value x e 11 d11 (lit< tt) i ∷ at value x e 12 d12 (lit< tt) i
+      ∷ at value x e 13 d13 (lit< tt) i ∷ at value x e 14 d14 (lit< tt) i ∷ at value x e 15 d15 (lit< tt) i
+      ∷ (f ∙ new) i ∷ [])
+      ∙ ap (λ (m : List ℕ). drop 1 m ++ (made ∷ [])) all
 
   -- eight rounds in a row, each from what the one before it made
   pub advance_eight : (t : ℕ) (s : List ℕ × List ℕ) {s1 s2 s3 s4 s5 s6 s7 s8 : List ℕ × List ℕ}
@@ -34,27 +55,47 @@ module _ (C : Core) where
   unfolding advanced
   advance_eight t s e1 e2 e3 e4 e5 e6 e7 e8 = cc (add-zero t)
 
-  -- the last sixteen rounds in a row
-  pub round_sixteen : (x v : List ℕ) {v1 v2 v3 v4 v5 v6 v7 v8 v9 v10 v11 v12 v13 v14 v15 v16 : List ℕ}
-      → v1 ≡ round_at C v (sliding_rounds C) (get_or x 0 0)
-      → v2 ≡ round_at C v1 (sliding_rounds C + 1) (get_or x 1 0)
-      → v3 ≡ round_at C v2 (sliding_rounds C + 2) (get_or x 2 0)
-      → v4 ≡ round_at C v3 (sliding_rounds C + 3) (get_or x 3 0)
-      → v5 ≡ round_at C v4 (sliding_rounds C + 4) (get_or x 4 0)
-      → v6 ≡ round_at C v5 (sliding_rounds C + 5) (get_or x 5 0)
-      → v7 ≡ round_at C v6 (sliding_rounds C + 6) (get_or x 6 0)
-      → v8 ≡ round_at C v7 (sliding_rounds C + 7) (get_or x 7 0)
-      → v9 ≡ round_at C v8 (sliding_rounds C + 8) (get_or x 8 0)
-      → v10 ≡ round_at C v9 (sliding_rounds C + 9) (get_or x 9 0)
-      → v11 ≡ round_at C v10 (sliding_rounds C + 10) (get_or x 10 0)
-      → v12 ≡ round_at C v11 (sliding_rounds C + 11) (get_or x 11 0)
-      → v13 ≡ round_at C v12 (sliding_rounds C + 12) (get_or x 12 0)
-      → v14 ≡ round_at C v13 (sliding_rounds C + 13) (get_or x 13 0)
-      → v15 ≡ round_at C v14 (sliding_rounds C + 14) (get_or x 14 0)
-      → v16 ≡ round_at C v15 (sliding_rounds C + 15) (get_or x 15 0)
-      → v16 ≡ rounds_over C (sliding_rounds C) x v 16
+  -- the last sixteen rounds in a row, with the words of a ring x
+  pub round_sixteen : {W : Type 0} (value : W → ℕ) (x : List W) (v : List ℕ) (t : ℕ) → length x ≡ 16 → t ≡ sliding_rounds C
+      → (d0 d1 d2 d3 d4 d5 d6 d7 d8 d9 d10 d11 d12 d13 d14 d15 : W) {v1 v2 v3 v4 v5 v6 v7 v8 v9 v10 v11 v12 v13 v14 v15 v16 : List ℕ}
+      → v1 ≡ round_at C v t (value (get_or x 0 d0))
+      → v2 ≡ round_at C v1 (t + 1) (value (get_or x 1 d1))
+      → v3 ≡ round_at C v2 (t + 2) (value (get_or x 2 d2))
+      → v4 ≡ round_at C v3 (t + 3) (value (get_or x 3 d3))
+      → v5 ≡ round_at C v4 (t + 4) (value (get_or x 4 d4))
+      → v6 ≡ round_at C v5 (t + 5) (value (get_or x 5 d5))
+      → v7 ≡ round_at C v6 (t + 6) (value (get_or x 6 d6))
+      → v8 ≡ round_at C v7 (t + 7) (value (get_or x 7 d7))
+      → v9 ≡ round_at C v8 (t + 8) (value (get_or x 8 d8))
+      → v10 ≡ round_at C v9 (t + 9) (value (get_or x 9 d9))
+      → v11 ≡ round_at C v10 (t + 10) (value (get_or x 10 d10))
+      → v12 ≡ round_at C v11 (t + 11) (value (get_or x 11 d11))
+      → v13 ≡ round_at C v12 (t + 12) (value (get_or x 12 d12))
+      → v14 ≡ round_at C v13 (t + 13) (value (get_or x 13 d13))
+      → v15 ≡ round_at C v14 (t + 14) (value (get_or x 14 d14))
+      → v16 ≡ round_at C v15 (t + 15) (value (get_or x 15 d15))
+      → v16 ≡ rounds_over C (sliding_rounds C) (map value x) v 16
   unfolding rounds_over
-  round_sixteen x v e1 e2 e3 e4 e5 e6 e7 e8 e9 e10 e11 e12 e13 e14 e15 e16 = cc (add-zero (sliding_rounds C))
+  round_sixteen value x v t n e d0 d1 d2 d3 d4 d5 d6 d7 d8 d9 d10 d11 d12 d13 d14 d15 e1 e2 e3 e4 e5 e6 e7 e8 e9 e10 e11 e12 e13 e14 e15 e16 =
+      cc (
+        add-zero (sliding_rounds C),
+        at value x n 0 d0 (lit< tt),
+        at value x n 1 d1 (lit< tt),
+        at value x n 2 d2 (lit< tt),
+        at value x n 3 d3 (lit< tt),
+        at value x n 4 d4 (lit< tt),
+        at value x n 5 d5 (lit< tt),
+        at value x n 6 d6 (lit< tt),
+        at value x n 7 d7 (lit< tt),
+        at value x n 8 d8 (lit< tt),
+        at value x n 9 d9 (lit< tt),
+        at value x n 10 d10 (lit< tt),
+        at value x n 11 d11 (lit< tt),
+        at value x n 12 d12 (lit< tt),
+        at value x n 13 d13 (lit< tt),
+        at value x n 14 d14 (lit< tt),
+        at value x n 15 d15 (lit< tt),
+      )
 
   module _ (b : List ℕ) where
     -- the whole schedule of a block

@@ -1,22 +1,35 @@
 -- Believed: what each public call answers, for all arguments: its checks in their order, and the work where none fails. An outcome
 -- predicate is what the call's contract says; Calls/Unique.antt shows that no second outcome meets it. Assumes nothing.
 pub mod Unique
-use Rattle.std.specs.Prelude.{◌≡◌, ℕ, ◌+◌, Bool, List, [], ◌∷◌, length, ◌==◌, nat_le}
+use Rattle.std.specs.Prelude.{◌≡◌, ℕ, ◌+◌, Bool, List, [], ◌∷◌, length, ◌==◌, nat_le, Result}
 use Rattle.algorithm.specs.Hashes.{names, hash_of, size_of}
 use Rattle.algorithm.specs.Refusals.{unknown_hash, message_too_long, wrong_size, state_not_sound, most_bytes}
+use Rattle.algorithm.specs.Answers.{valued}
 use Rattle.algorithm.specs.Checks.{Check, check, first_failing, decided, answered}
 use Rattle.hash.specs.Digest.{digest_of}
 use Rattle.hash.specs.State.{sound_of, fresh_of, zero_state, after_of, end_of}
 use Rattle.hash.specs.declared.state.State.{State}
-use Rattle.hash.specs.declared.state.Started.{Started}
-use Rattle.hash.specs.declared.state.Fed.{Fed}
+use Rattle.algorithm.specs.declared.hashes.Hash.{Hash}
+use Rattle.algorithm.specs.declared.refusals.Refusal.{Refusal}
 
--- an answer with a state
-abbrev pub fed : ℕ → State → Fed
-fed n s = record { number = n; state = s }
+-- a number with a state: what a start answers, and what a piece leads to
+pub record Started : Type 0 where
+  pub number : ℕ
+  pub state : State
+
+pub record Fed : Type 0 where
+  pub number : ℕ
+  pub state : State
 
 abbrev pub started : ℕ → State → Started
 started n s = record { number = n; state = s }
+
+abbrev pub fed : ℕ → State → Fed
+fed n s = record { number = n; state = s }
+
+-- the answer of the code to a start as such a number and state: one that is refused is one with zeros that name hash 1
+abbrev pub started_by : Result State Refusal → Started
+started_by r = let a = valued zero_state r in started a.0 a.1
 
 -- start(hash_number)
 abbrev pub start_checks : ℕ → List Check
@@ -27,6 +40,10 @@ start_of n = record { number = first_failing (start_checks n); state = decided (
 
 abbrev pub StartOutcome : ℕ → Started → Type 0
 StartOutcome n r = r ≡ start_of n
+
+-- fresh(hash)
+abbrev pub FreshOutcome : Hash → State → Type 0
+FreshOutcome h r = r ≡ fresh_of h
 
 -- sound(state)
 abbrev pub SoundOutcome : State → Bool → Type 0

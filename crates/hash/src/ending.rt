@@ -2,6 +2,7 @@
 ghost use Rattle.std.specs.Prelude.{◌≡◌, ◌+◌, ◌-◌, ◌<◌, ◌≤◌, ◌∷◌, ◌++◌, length, take, replicate};
 ghost use Rattle.octets.specs.Number.{bytes};
 ghost use Rattle.octets.specs.Zeros.{zeros_to};
+ghost use Rattle.algorithm.specs.Answers.{number};
 ghost use Rattle.algorithm.specs.Hashes.{block_of};
 ghost use Rattle.hash.specs.Description.{describe};
 ghost use Rattle.hash.specs.Sha2.{word_size, spell};
@@ -11,17 +12,16 @@ ghost use Rattle.hash.specs.Inside.{padded_end, Ends};
 
 use crate::state::{LARGEST_BLOCK, State};
 use crate::width::{Width, width_of};
-use crate::{narrow, wide};
-use algorithm::Hash;
+use crate::words::Word;
+use algorithm::{Hash, Refusal};
 
 // The bytes of a word.
 fn word_size(hash: Hash) -> usize
     ensures { (result ≡ word_size (describe hash).core) × (result ≤ 8) }
 {
-    let width = width_of(hash);
-    match width {
-        Width::Narrow => narrow::WORD,
-        Width::Wide => wide::WORD,
+    match width_of(hash) {
+        Width::Narrow => <u32 as Word>::BYTES,
+        Width::Wide => <u64 as Word>::BYTES,
     }
 }
 
@@ -48,8 +48,7 @@ fn put_last_blocks(last: &mut [u8; 2 * LARGEST_BLOCK], waiting: &[u8], end: usiz
     let at = waiting.len();
     crate::place::put_at(last, 0, waiting);
     last[at] = 0x80;
-    let field = octets::eight_bytes(bits);
-    crate::place::put_at(last, end - 8, &field);
+    crate::place::put_at(last, end - 8, &octets::eight_bytes(bits));
 }
 
 // The words after the padded rest, which is a run.
@@ -57,15 +56,11 @@ fn last_words(state: State) -> [u64; 8]
     requires { Ends state }
     ensures { result ≡ last_words state }
 {
-    let hash = state.hash;
-    let at = crate::state::waiting_count(state);
-    let end = padded_end(hash, at);
-    let count = state.count;
-    let waiting = state.waiting;
-    let mut last = [0u8; 2 * LARGEST_BLOCK];
-    put_last_blocks(&mut last, &waiting[..at], end, 8 * count);
-    let words = state.words;
-    crate::blocks::words_after(hash, words, &last[..end], b"")
+    let at = crate::state::waiting_count(&state);
+    let end = padded_end(state.hash, at);
+    let mut last = [0; 2 * LARGEST_BLOCK];
+    put_last_blocks(&mut last, &state.waiting[..at], end, 8 * state.count);
+    crate::blocks::words_after(state.hash, state.words, &last[..end], b"")
 }
 
 // The bytes of the words, with zeros after them.
@@ -73,33 +68,26 @@ fn spelled(hash: Hash, words: [u64; 8]) -> [u8; 64]
     ensures { result ≡ zeros_to 64 (spell (word_size (describe hash).core) words) }
 {
     let size = word_size(hash);
-    let from = 8 - size;
-    let mut out = [0u8; 64];
-    let mut i: usize = 0;
-    while i < 8 {
-        let word = octets::eight_bytes(words[i]);
-        crate::place::put_at(&mut out, i * size, &word[from..]);
-        i += 1;
+    let mut out = [0; 64];
+    for (i, word) in words.iter().enumerate() {
+        let bytes = octets::eight_bytes(*word);
+        crate::place::put_at(&mut out, i * size, &bytes[8 - size..]);
     }
     out
 }
 
 // The digest of the bytes taken so far, which does not use the state up; 10 where the state is not sound, 6 where the output is
 // not of a digest's size.
-pub fn finish(state: State, out: &mut [u8]) -> u32
-    ensures { FinishOutcome state out.old result out.new }
+pub fn finish(state: State, out: &mut [u8]) -> Result<(), Refusal>
+    ensures { FinishOutcome state out.old (number result) out.new }
 {
-    let ok = crate::soundness::sound(state);
-    if !ok {
-        return algorithm::STATE_NOT_SOUND;
+    if !crate::soundness::sound(state) {
+        return Err(Refusal::StateNotSound);
     }
-    let hash = state.hash;
-    let size = algorithm::digest_size(hash);
-    if out.len() != size {
-        return algorithm::WRONG_SIZE;
+    if out.len() != algorithm::digest_size(state.hash) {
+        return Err(Refusal::WrongSize);
     }
-    let words = last_words(state);
-    let bytes = spelled(hash, words);
+    let bytes = spelled(state.hash, last_words(state));
     octets::copy_prefix(&bytes, out);
-    algorithm::DONE
+    Ok(())
 }

@@ -2,27 +2,26 @@
 // copied.
 ghost use Rattle.std.specs.Prelude.{◌≡◌, ◌+◌, ◌≤◌, true, length};
 ghost use Rattle.std.proofs.Math.Seq.{paste};
+ghost use Rattle.algorithm.specs.Answers.{number};
 ghost use Rattle.algorithm.specs.Refusals.{most_bytes};
 ghost use Rattle.algorithm.specs.Hashes.{block_of};
 ghost use Rattle.hash.specs.Run.{Run};
 ghost use Rattle.hash.specs.State.{largest_block, fit, words_of, placed, after_of};
-ghost use Rattle.hash.specs.Calls.{UpdateOutcome};
+ghost use Rattle.hash.specs.Calls.{fed, UpdateOutcome};
 ghost use Rattle.hash.specs.Inside.{with_waiting, onward_of, Takes, Fills};
 
-use crate::state::{Fed, LARGEST_BLOCK, State};
-use algorithm::Hash;
+use crate::state::{LARGEST_BLOCK, State};
+use algorithm::{Hash, Refusal};
 
 // The state after a piece that fills no block.
-fn appended(state: State, at: usize, piece: &[u8]) -> State
+fn appended(state: &State, at: usize, piece: &[u8]) -> State
     requires room { at + length piece.now ≤ largest_block }
-    requires fits { state.count + length piece.now ≤ most_bytes }
-    ensures { result ≡ with_waiting state (paste state.waiting at piece.now (length piece.now)) (length piece.now) }
+    requires fits { state.now.count + length piece.now ≤ most_bytes }
+    ensures { result ≡ with_waiting state.now (paste state.now.waiting at piece.now (length piece.now)) (length piece.now) }
 {
-    let mut waiting = state.waiting;
-    crate::place::put_at(&mut waiting, at, piece);
-    let mut next = state;
-    next.waiting = waiting;
-    next.count = state.count + piece.len() as u64;
+    let mut next = *state;
+    crate::place::put_at(&mut next.waiting, at, piece);
+    next.count += piece.len() as u64;
     next
 }
 
@@ -31,7 +30,7 @@ fn placed(bytes: &[u8]) -> [u8; LARGEST_BLOCK]
     requires { length bytes.now ≤ largest_block }
     ensures { result ≡ placed bytes.now }
 {
-    let mut waiting = [0u8; LARGEST_BLOCK];
+    let mut waiting = [0; LARGEST_BLOCK];
     crate::place::put_at(&mut waiting, 0, bytes);
     waiting
 }
@@ -42,74 +41,59 @@ fn onward<'a>(hash: Hash, words: [u64; 8], count: u64, run: &'a [u8], bytes: &'a
     requires { (fit hash words ≡ true) × (Run (block_of hash) run.now) }
     ensures { result ≡ onward_of hash (words_of hash words run.now) count bytes.now }
 {
-    let size = algorithm::block_size(hash);
-    let cut = bytes.len() - bytes.len() % size;
-    let after = crate::blocks::words_after(hash, words, run, &bytes[..cut]);
-    let waiting = placed(&bytes[cut..]);
+    let cut = bytes.len() - bytes.len() % algorithm::block_size(hash);
     State {
         hash,
-        words: after,
+        words: crate::blocks::words_after(hash, words, run, &bytes[..cut]),
         count,
-        waiting,
+        waiting: placed(&bytes[cut..]),
     }
 }
 
 // The state after a piece whose first `room` bytes fill the block that has begun: that block is a run.
-fn filled(state: State, at: usize, room: usize, piece: &[u8]) -> State
-    requires { Fills state at room piece.now }
-    ensures { result ≡ after_of state piece.now }
+fn filled(state: &State, at: usize, room: usize, piece: &[u8]) -> State
+    requires { Fills state.now at room piece.now }
+    ensures { result ≡ after_of state.now piece.now }
 {
-    let hash = state.hash;
-    let words = state.words;
     let mut block = state.waiting;
     crate::place::put_at(&mut block, at, &piece[..room]);
-    let end = at + room;
     let count = state.count + piece.len() as u64;
-    onward(hash, words, count, &block[..end], &piece[room..])
+    onward(
+        state.hash,
+        state.words,
+        count,
+        &block[..at + room],
+        &piece[room..],
+    )
 }
 
-// The state after a piece that is taken.
-fn taken(state: State, piece: &[u8]) -> State
-    requires { Takes state piece.now }
-    ensures { result ≡ after_of state piece.now }
+// The state after a piece that is taken. States are lent, since each copy would take stack.
+fn taken(state: &State, piece: &[u8]) -> State
+    requires { Takes state.now piece.now }
+    ensures { result ≡ after_of state.now piece.now }
 {
-    let hash = state.hash;
-    let size = algorithm::block_size(hash);
     let at = crate::state::waiting_count(state);
-    let room = size - at;
+    let room = algorithm::block_size(state.hash) - at;
     if piece.len() < room {
         return appended(state, at, piece);
     }
     if at == 0 {
-        let words = state.words;
         let count = state.count + piece.len() as u64;
-        return onward(hash, words, count, b"", piece);
+        return onward(state.hash, state.words, count, b"", piece);
     }
     filled(state, at, room, piece)
 }
 
-// The state after one piece more; 10 where the state is not sound, 4 where the bytes would be too many. A refusal hands the given
-// state back.
-pub fn update(state: State, piece: &[u8]) -> Fed
-    ensures { UpdateOutcome state piece.now result }
+// Takes one piece more; 10 where the state is not sound, 4 where the bytes would be too many. A refusal leaves the state as it was.
+pub fn update(state: &mut State, piece: &[u8]) -> Result<(), Refusal>
+    ensures { UpdateOutcome state.old piece.now (fed (number result) state.new) }
 {
-    let ok = crate::soundness::sound(state);
-    if !ok {
-        return Fed {
-            number: algorithm::STATE_NOT_SOUND,
-            state,
-        };
+    if !crate::soundness::is_sound(state) {
+        return Err(Refusal::StateNotSound);
     }
-    let count = state.count;
-    if algorithm::MOST_BYTES - count < piece.len() as u64 {
-        return Fed {
-            number: algorithm::MESSAGE_TOO_LONG,
-            state,
-        };
+    if algorithm::MOST_BYTES - state.count < piece.len() as u64 {
+        return Err(Refusal::MessageTooLong);
     }
-    let next = taken(state, piece);
-    Fed {
-        number: algorithm::DONE,
-        state: next,
-    }
+    *state = taken(state, piece);
+    Ok(())
 }

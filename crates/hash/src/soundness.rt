@@ -13,8 +13,8 @@ fn gathered(words: [u64; 8]) -> u64
     ensures { (w : ℕ) → nat_lt result (2 ^ w) ≡ every (λ x. ltb x (2 ^ w)) words }
 {
     let mut bits: u64 = 0;
-    for i in 0..8 {
-        bits = bits | words[i];
+    for word in words {
+        bits |= word;
     }
     bits
 }
@@ -24,28 +24,25 @@ fn words_fit(hash: Hash, words: [u64; 8]) -> bool
     ensures { result ≡ fit hash words }
 {
     let bits = gathered(words);
-    let width = width_of(hash);
-    match width {
+    match width_of(hash) {
         Width::Narrow => bits < 0x1_0000_0000,
         Width::Wide => true,
     }
+}
+
+// The test of a lent state, which copies nothing.
+pub(crate) fn is_sound(state: &State) -> bool
+    ensures { SoundOutcome state.now result }
+{
+    let at = crate::state::waiting_count(state);
+    state.count <= algorithm::MOST_BYTES
+        && octets::all_zero(&state.waiting[at..])
+        && words_fit(state.hash, state.words)
 }
 
 // Whether a state is sound: its count within the limit, zeros after the bytes that wait, and each word within its width.
 pub fn sound(state: State) -> bool
     ensures { SoundOutcome state result }
 {
-    let count = state.count;
-    if algorithm::MOST_BYTES < count {
-        return false;
-    }
-    let at = crate::state::waiting_count(state);
-    let waiting = state.waiting;
-    let clear = octets::all_zero(&waiting[at..]);
-    if !clear {
-        return false;
-    }
-    let hash = state.hash;
-    let words = state.words;
-    words_fit(hash, words)
+    is_sound(&state)
 }

@@ -1,54 +1,39 @@
 // The start of work in pieces.
-ghost use Rattle.std.specs.Prelude.{◌≡◌, replicate};
-ghost use Rattle.hash.specs.State.{from, fresh_of};
-ghost use Rattle.hash.specs.Calls.{StartOutcome};
+ghost use Rattle.std.specs.Prelude.{◌≡◌};
+ghost use Rattle.hash.specs.State.{zero_state};
+ghost use Rattle.hash.specs.Calls.{started_by, StartOutcome, FreshOutcome};
 
-use crate::state::{LARGEST_BLOCK, Started, State};
-use algorithm::{Hash, Named};
+use crate::state::{LARGEST_BLOCK, State};
+use algorithm::{Hash, Refusal};
 
-// The state that has taken no byte.
-fn fresh(hash: Hash) -> State
-    ensures { result ≡ fresh_of hash }
+// The state of a hash that has taken no byte.
+pub fn fresh(hash: Hash) -> State
+    ensures { FreshOutcome hash result }
 {
-    let words = crate::table::first_words(hash);
-    let waiting = [0u8; LARGEST_BLOCK];
     State {
         hash,
-        words,
+        words: crate::table::first_words(hash),
         count: 0,
-        waiting,
+        waiting: [0; LARGEST_BLOCK],
     }
 }
 
-// What a refused start hands back: zeros that name hash 1.
-fn zero_state() -> State
-    ensures { result ≡ from Hash.Sha256 (replicate 8 0) }
-{
-    let words = [0u64; 8];
-    let waiting = [0u8; LARGEST_BLOCK];
-    State {
-        hash: Hash::Sha256,
-        words,
-        count: 0,
-        waiting,
+// The zeros that a start stands for which is refused; they name hash 1.
+impl Default for State {
+    ghost is_default = { λ state. state ≡ zero_state };
+
+    fn default() -> Self {
+        State {
+            words: [0; 8],
+            ..fresh(Hash::Sha256)
+        }
     }
 }
 
 // A start for the hash of this number; 2 where there is none.
-pub fn start(hash_number: u32) -> Started
-    ensures { StartOutcome hash_number result }
+pub fn start(hash_number: u32) -> Result<State, Refusal>
+    ensures { StartOutcome hash_number (started_by result) }
 {
-    let named = algorithm::which(hash_number);
-    let Named::Is(hash) = named else {
-        let state = zero_state();
-        return Started {
-            number: algorithm::UNKNOWN_HASH,
-            state,
-        };
-    };
-    let state = fresh(hash);
-    Started {
-        number: algorithm::DONE,
-        state,
-    }
+    let hash = Hash::try_from(hash_number)?;
+    Ok(fresh(hash))
 }

@@ -1,15 +1,30 @@
 // The tables: the round constants and the first chaining words (FIPS 180-4, sections 4.2 and 5.3).
-ghost use Rattle.std.specs.Prelude.{◌≡◌};
+ghost use Rattle.std.specs.Prelude.{◌≡◌, ◌<◌, slice_index};
 ghost use Rattle.hash.specs.Table.{k64, upper};
 ghost use Rattle.hash.specs.Description.{describe};
 
 use algorithm::Hash;
 
-// The round constants of SHA-512, from which those of SHA-256 are taken. Only here is K named: whoever names it rebuilds it.
-pub(crate) fn table() -> [u64; 80]
-    ensures { result ≡ k64 }
-{
-    K
+// The round constants of SHA-512, from which those of SHA-256 are taken. Every such value holds them all.
+#[derive(Drop)]
+pub(crate) struct Table {
+    words: [u64; 80],
+    ghost is: { words ≡ k64 },
+}
+
+impl Table {
+    // The table. Only here is K named: whoever names it rebuilds it.
+    pub(crate) fn new() -> Table {
+        Table { words: K }
+    }
+
+    // The constant of the round t of SHA-512.
+    pub(crate) fn at(&self, t: usize) -> u64
+        requires { t < 80 }
+        ensures { result ≡ slice_index k64 t }
+    {
+        self.words[t]
+    }
 }
 
 // A round constant of SHA-256: the upper half of one of SHA-512.

@@ -1,29 +1,13 @@
-// The block step on words of 64 bits (FIPS 180-4, sections 4.1.3 and 6.4.2), and the words after a run of blocks.
-ghost use Rattle.std.specs.Prelude.{◌≡◌, ◌+◌, ◌<◌, ◌≤◌, length};
-ghost use mathlib.Core.List.{foldl};
-ghost use Rattle.hash.specs.Word.{rotr, ch, maj};
-ghost use Rattle.hash.specs.Table.{k64};
+// Words of 64 bits (FIPS 180-4, section 4.1.3).
+ghost use Rattle.std.specs.Prelude.{◌≡◌, ◌<◌};
+ghost use Rattle.hash.specs.Word.{rotr};
 ghost use Rattle.hash.specs.Description.{wide};
-ghost use Rattle.hash.specs.Blocks.{whole_blocks};
-ghost use Rattle.hash.specs.Run.{Run};
-ghost use Rattle.hash.specs.Ring.{round_at, rounds_over, slide, advance, advanced, progress_at};
-ghost use Rattle.hash.specs.Sha2 as sha;
+ghost use Rattle.std.proofs.Common.{lit≤};
+ghost use Rattle.hash.specs.Sizes.Laws.{wide_sizes};
 
-use crate::words::word64;
-use std::num::wrapping_add_u64 as add;
-
-// The bytes of a word and of a block.
-pub(crate) const WORD: usize = 8;
-
-const BLOCK: usize = 16 * WORD;
-
-// How far the rounds of a block have come: the eight working variables, a to h in the standard, and the ring, which holds the words
-// of the schedule for the next sixteen rounds, the nearest first.
-#[derive(Clone, Copy)]
-struct Progress {
-    variables: [u64; 8],
-    ring: [u64; 16],
-}
+use crate::table::Table;
+use crate::words::{Word, word64};
+use std::num::wrapping_add_u64;
 
 fn rotr(x: u64, n: u64) -> u64
     requires { (0 < n) × (n < 64) }
@@ -32,241 +16,59 @@ fn rotr(x: u64, n: u64) -> u64
     (x >> n) | (x << (64 - n))
 }
 
-// Ch and Maj have one operation less than in the standard, for speed.
-fn ch(x: u64, y: u64, z: u64) -> u64
-    ensures { result ≡ ch 64 x y z }
-{
-    (x & (y ^ z)) ^ z
-}
+impl Word for u64 {
+    ghost core = { wide };
 
-fn maj(x: u64, y: u64, z: u64) -> u64
-    ensures { result ≡ maj x y z }
-{
-    ((x ^ y) & (y ^ z)) ^ y
-}
+    ghost value = { λ x. x };
 
-// The rotations of the four sigma functions are nested, for speed: the innermost word is rotated by 39 - 34, by 34 - 28 and by 28, which
-// is by 39.
-fn big0(x: u64) -> u64
-    ensures { result ≡ sha.big0 wide x }
-{
-    rotr(x ^ rotr(x ^ rotr(x, 39 - 34), 34 - 28), 28)
-}
+    ghost BYTES = { 8 };
 
-fn big1(x: u64) -> u64
-    ensures { result ≡ sha.big1 wide x }
-{
-    rotr(x ^ rotr(x ^ rotr(x, 41 - 18), 18 - 14), 14)
-}
+    const BYTES: usize = 8;
 
-fn small0(x: u64) -> u64
-    ensures { result ≡ sha.small0 wide x }
-{
-    rotr(x ^ rotr(x, 8 - 1), 1) ^ (x >> 7)
-}
+    ghost ROUNDS = { 80 };
 
-fn small1(x: u64) -> u64
-    ensures { result ≡ sha.small1 wide x }
-{
-    rotr(x ^ rotr(x, 61 - 19), 19) ^ (x >> 6)
-}
+    const ROUNDS: usize = 80;
 
-fn t1(e: u64, f: u64, g: u64, h: u64, k: u64, w: u64) -> u64
-    ensures { result ≡ sha.t1 wide e f g h k w }
-{
-    add(add(add(add(h, big1(e)), ch(e, f, g)), k), w)
-}
-
-fn t2(a: u64, b: u64, c: u64) -> u64
-    ensures { result ≡ sha.t2 wide a b c }
-{
-    add(big0(a), maj(a, b, c))
-}
-
-fn round(s: [u64; 8], k: u64, w: u64) -> [u64; 8]
-    ensures { result ≡ sha.round wide s k w }
-{
-    let a = s[0];
-    let b = s[1];
-    let c = s[2];
-    let d = s[3];
-    let e = s[4];
-    let f = s[5];
-    let g = s[6];
-    let h = s[7];
-    let x = t1(e, f, g, h, k, w);
-    let y = t2(a, b, c);
-    [add(x, y), a, b, c, add(d, x), e, f, g]
-}
-
-fn mix(w2: u64, w7: u64, w15: u64, w16: u64) -> u64
-    ensures { result ≡ sha.mix wide w2 w7 w15 w16 }
-{
-    add(add(add(small1(w2), w7), small0(w15)), w16)
-}
-
-// The round t, with its word of the schedule; `k` is the table.
-fn round_at(v: [u64; 8], k: &[u64; 80], t: usize, w: u64) -> [u64; 8]
-    requires { (t < 80) × (k.now ≡ k64) }
-    ensures { result ≡ round_at wide v t w }
-{
-    round(v, k[t], w)
-}
-
-// The ring one word on.
-fn slide(ring: [u64; 16]) -> [u64; 16]
-    ensures { result ≡ slide wide ring }
-{
-    let next = mix(ring[14], ring[9], ring[1], ring[0]);
-    [
-        ring[1], ring[2], ring[3], ring[4], ring[5], ring[6], ring[7], ring[8], ring[9], ring[10],
-        ring[11], ring[12], ring[13], ring[14], ring[15], next,
-    ]
-}
-
-// The round t with the ring's first word, and the ring one word on.
-fn advance(progress: Progress, k: &[u64; 80], t: usize) -> Progress
-    requires { (t < 80) × (k.now ≡ k64) }
-    ensures { (result.variables, result.ring) ≡ advance wide t (progress.variables, progress.ring) }
-{
-    let v = progress.variables;
-    let ring = progress.ring;
-    let variables = round_at(v, k, t, ring[0]);
-    let slid = slide(ring);
-    Progress {
-        variables,
-        ring: slid,
+    fn add(self, other: u64) -> u64 {
+        wrapping_add_u64(self, other)
     }
-}
 
-// The eight rounds from t on, each with the ring's first word.
-fn advance_eight(progress: Progress, k: &[u64; 80], t: usize) -> Progress
-    requires { (t + 8 ≤ 80) × (k.now ≡ k64) }
-    ensures { (result.variables, result.ring) ≡ advanced wide t (progress.variables, progress.ring) 8 }
-{
-    let p1 = advance(progress, k, t);
-    let p2 = advance(p1, k, t + 1);
-    let p3 = advance(p2, k, t + 2);
-    let p4 = advance(p3, k, t + 3);
-    let p5 = advance(p4, k, t + 4);
-    let p6 = advance(p5, k, t + 5);
-    let p7 = advance(p6, k, t + 6);
-    advance(p7, k, t + 7)
-}
-
-// The last sixteen rounds, whose words are all in the ring.
-fn last_rounds(progress: Progress, k: &[u64; 80]) -> [u64; 8]
-    requires { k.now ≡ k64 }
-    ensures { result ≡ rounds_over wide 64 progress.ring progress.variables 16 }
-{
-    let v = progress.variables;
-    let ring = progress.ring;
-    let v1 = round_at(v, k, 64, ring[0]);
-    let v2 = round_at(v1, k, 65, ring[1]);
-    let v3 = round_at(v2, k, 66, ring[2]);
-    let v4 = round_at(v3, k, 67, ring[3]);
-    let v5 = round_at(v4, k, 68, ring[4]);
-    let v6 = round_at(v5, k, 69, ring[5]);
-    let v7 = round_at(v6, k, 70, ring[6]);
-    let v8 = round_at(v7, k, 71, ring[7]);
-    let v9 = round_at(v8, k, 72, ring[8]);
-    let v10 = round_at(v9, k, 73, ring[9]);
-    let v11 = round_at(v10, k, 74, ring[10]);
-    let v12 = round_at(v11, k, 75, ring[11]);
-    let v13 = round_at(v12, k, 76, ring[12]);
-    let v14 = round_at(v13, k, 77, ring[13]);
-    let v15 = round_at(v14, k, 78, ring[14]);
-    round_at(v15, k, 79, ring[15])
-}
-
-// The word t of the block that starts the bytes.
-fn word_at(b: &[u8], t: usize) -> u64
-    requires { (t < 16) × (128 ≤ length b.now) }
-    ensures { result ≡ sha.word wide b.now t }
-{
-    word64(b, WORD * t)
-}
-
-// The sixteen words of the block that starts the bytes. They are written out, since a loop would keep them in an array beside the
-// ring.
-fn block_words(b: &[u8]) -> [u64; 16]
-    requires { 128 ≤ length b.now }
-    ensures { result ≡ sha.words wide b.now 16 }
-{
-    [
-        word_at(b, 0),
-        word_at(b, 1),
-        word_at(b, 2),
-        word_at(b, 3),
-        word_at(b, 4),
-        word_at(b, 5),
-        word_at(b, 6),
-        word_at(b, 7),
-        word_at(b, 8),
-        word_at(b, 9),
-        word_at(b, 10),
-        word_at(b, 11),
-        word_at(b, 12),
-        word_at(b, 13),
-        word_at(b, 14),
-        word_at(b, 15),
-    ]
-}
-
-// All rounds but the last sixteen: each also makes the word that comes sixteen rounds later.
-fn sliding_rounds(s: [u64; 8], b: &[u8], k: &[u64; 80]) -> Progress
-    requires { (128 ≤ length b.now) × (k.now ≡ k64) }
-    ensures { (result.variables, result.ring) ≡ progress_at wide s b.now 64 }
-{
-    let ring = block_words(b);
-    let mut progress = Progress { variables: s, ring };
-    for i in 0..8 {
-        let next = advance_eight(progress, k, 8 * i);
-        progress = next;
+    // Ch and Maj have one operation less than in the standard, for speed.
+    fn ch(x: u64, y: u64, z: u64) -> u64 {
+        (x & (y ^ z)) ^ z
     }
-    progress
-}
 
-fn rounds(s: [u64; 8], b: &[u8], k: &[u64; 80]) -> [u64; 8]
-    requires { (128 ≤ length b.now) × (k.now ≡ k64) }
-    ensures { result ≡ sha.rounds wide (sha.schedule wide b.now 64) s 80 }
-{
-    let progress = sliding_rounds(s, b, k);
-    last_rounds(progress, k)
-}
-
-fn sums(s: [u64; 8], v: [u64; 8]) -> [u64; 8]
-    ensures { result ≡ sha.sums wide s v }
-{
-    let mut out = [0u64; 8];
-    for i in 0..8 {
-        out[i] = add(s[i], v[i]);
+    fn maj(x: u64, y: u64, z: u64) -> u64 {
+        ((x ^ y) & (y ^ z)) ^ y
     }
-    out
-}
 
-// The chaining words after the block that starts the bytes.
-fn step(s: [u64; 8], b: &[u8], k: &[u64; 80]) -> [u64; 8]
-    requires { (128 ≤ length b.now) × (k.now ≡ k64) }
-    ensures { result ≡ sha.step wide s b.now }
-{
-    let v = rounds(s, b, k);
-    sums(s, v)
-}
-
-// The chaining words after every block of a run, each read where it stands; `k` is the table, lent by the caller. A run has no ragged
-// end, so where a byte is left, a block is.
-pub(crate) fn after_run(words: [u64; 8], run: &[u8], k: &[u64; 80]) -> [u64; 8]
-    requires { (Run (sha.block_size wide) run.now) × (k.now ≡ k64) }
-    ensures { result ≡ foldl (sha.step wide) words (whole_blocks (sha.block_size wide) run.now) }
-{
-    let mut v = words;
-    let mut at: usize = 0;
-    while 0 < run.len() - at {
-        let end = at + BLOCK;
-        let n = step(v, &run[at..end], k);
-        v = n;
-        at = end;
+    // The rotations of the four sigma functions are nested, for speed: the innermost word is rotated by 39 - 34, by 34 - 28 and by
+    // 28, which is by 39.
+    fn big0(x: u64) -> u64 {
+        rotr(x ^ rotr(x ^ rotr(x, 39 - 34), 34 - 28), 28)
     }
-    v
+
+    fn big1(x: u64) -> u64 {
+        rotr(x ^ rotr(x ^ rotr(x, 41 - 18), 18 - 14), 14)
+    }
+
+    fn small0(x: u64) -> u64 {
+        rotr(x ^ rotr(x, 8 - 1), 1) ^ (x >> 7)
+    }
+
+    fn small1(x: u64) -> u64 {
+        rotr(x ^ rotr(x, 61 - 19), 19) ^ (x >> 6)
+    }
+
+    fn constant(k: &Table, t: usize) -> u64 {
+        k.at(t)
+    }
+
+    fn read(b: &[u8], at: usize) -> u64 {
+        word64(b, at)
+    }
+
+    ghost sizes = { wide_sizes };
+
+    ghost room = { record { size = lit≤ tt; align = lit≤ tt } };
 }

@@ -28,10 +28,10 @@ salt_fits h salt l = elim (ℕ_discrete (length salt) 0) [
   | no ne ↦ omega (arith, ap length (salt_given h salt ne))
 ]
 
--- the tag under the first zeros of a buffer
-pub zeros_tag : (n : ℕ) (ikm : List ℕ) (size : ℕ) (out : List ℕ) {answer : ℕ × List ℕ} → size ≤ 64
-    → answer ≡ tag_message_answer n (take size (replicate 64 0)) ikm size out → answer ≡ tag_message_answer n (replicate size 0) ikm size out
-zeros_tag n ikm size out l e = e ∙ ap (λ (key : List ℕ). tag_message_answer n key ikm size out) (take_replicate size 64 0 l)
+-- the first zeros of a buffer are the key that an empty salt makes
+pub zeros_key : (h : Hash) (salt : List ℕ) {size : ℕ} → size ≡ size_of h → length salt ≡ 0 → take size (replicate 64 0) ≡ salt_of h salt
+zeros_key h salt {size} s e =
+    take_replicate size 64 0 (omega (arith, digest_most h)) ∙ ap (λ (k : ℕ). replicate k 0) s ∙ sym (salt_empty h salt e)
 
 module _ (n : ℕ) (salt ikm out : List ℕ) (named : names n ≡ true) where
   -- the message is taken, and the output has a digest's size or not

@@ -1,3 +1,4 @@
+pub mod Named
 pub mod Extracts
 pub mod Stretches
 pub mod Filling

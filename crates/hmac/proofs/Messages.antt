@@ -1,57 +1,89 @@
 -- Laws of a message in one piece, from what start and update gave: the checks that refuse it, or the keyed state that has taken it.
 -- Assumes nothing.
-use mathlib.Core.Path.{◌≡◌, sym, ap, subst, ◌∙◌}
-use mathlib.Core.List.{List}
-use Prim.Native.Nat.{ℕ, ◌+◌, ◌-◌, ◌≤◌}
-use native.Mathlib.Decide.{dec_le}
-use native.Mathlib.Omega.{arith}
-use lib.ListN.{length}
+use Rattle.std.proofs.Common.{◌≡◌, ℕ, ◌+◌, ◌-◌, ◌≤◌, ◌<◌, true, List, length, Ok, Err, sym, ap, subst, ◌∙◌, arith}
+use Rattle.std.proofs.Math.Decide.{dec_le}
 use borrow.Author.Tests.{le-leb, lt-leb}
+use Rattle.algorithm.specs.declared.refusals.Refusal.{Refusal}
+use Rattle.algorithm.specs.declared.refusals.Refusal.TheVariants.{MessageTooLong}
+use Rattle.algorithm.specs.Answers.{number_of}
+use Rattle.algorithm.specs.Answers.Laws.{refusal_not_done}
 use Rattle.algorithm.specs.Checks.{first_failing}
 use Rattle.algorithm.specs.Checks.Laws.{append_refuses}
 use Rattle.algorithm.specs.Hashes.Laws.{block_most}
-use Rattle.algorithm.specs.Hashes.{hash_of, block_of}
-use Rattle.algorithm.specs.Refusals.{done, most_bytes}
-use Rattle.hmac.specs.Keyed.{fresh_keyed}
+use Rattle.algorithm.specs.Hashes.{names, hash_of, block_of, allowed}
+use Rattle.algorithm.specs.Refusals.{done, message_too_long, most_bytes}
+use Rattle.hmac.specs.Keyed.{fresh_keyed, after_keyed}
 use Rattle.hmac.specs.Keyed.Laws.{keyed_held, keyed_count}
-use Rattle.hmac.specs.Calls.{start_checks, fit_checks, start_of, update_of, fed}
-use Rattle.hmac.specs.Calls.Laws.{start_number, start_accepted, start_done, start_passes, update_too_long, update_accepted}
+use Rattle.hmac.specs.Calls.{Started, Fed, fed, started_by, start_checks, fit_checks, taken_checks, update_of, StartOutcome, UpdateOutcome}
+use Rattle.hmac.specs.Calls.Laws.{start_number, start_fresh, start_done, start_passes, update_too_long, update_accepted}
 use Rattle.hmac.specs.Pieces.Laws.{fresh_message}
-use Rattle.hmac.specs.Inside.{Taken}
+use Rattle.hmac.specs.Inside.{Message, Taken}
 use Rattle.hmac.specs.declared.keyed.Keyed.{Keyed}
-use Rattle.hmac.specs.declared.keyed.Started.{Started}
-use Rattle.hmac.specs.declared.keyed.Fed.{Fed}
 
 module _ (n : ℕ) (key m : List ℕ) (t : ℕ) where
   -- a start that refused
-  pub start_refuses : {s : Started} → s ≡ start_of n key t → (s.number ≡ done → ⊥) → {k : Keyed} → Taken n key m t (fed s.number k)
-  start_refuses {s} e z =
-      let i : s.number ≡ first_failing (start_checks n key t) = ap (λ (r : Started). r.number) e ∙ start_number n key t in
-      record { number = i ∙ sym (append_refuses (start_checks n key t) (fit_checks n m) (λ d. z (i ∙ d))); whole = λ d. absurd (z d) }
+  pub start_refuses : {e : Refusal} → StartOutcome n key t (started_by (Err e)) → Taken n key m t (Err e)
+  start_refuses {e} o =
+      let i = ap (λ (r : Started). r.number) o ∙ start_number n key t in
+      record {
+        number = i ∙ sym (append_refuses (start_checks n key t) (fit_checks n m) (λ d. refusal_not_done e (i ∙ d)));
+        whole = λ k q. cc;
+      }
 
-  -- a start that took the key and the tag length, and what the message made of it
-  pub message_taken : {s : Started} {f : Fed} → s ≡ start_of n key t → s.number ≡ done → f ≡ update_of s.keyed m → Taken n key m t f
-  message_taken {s} {f} e z ef =
-      let h = start_passes n key t ((start_done n key t).0 (sym (ap (λ (r : Started). r.number) e) ∙ z)) in
-      let short = h.1.0 in
-      let asked = h.1.1 in
-      let k : Keyed = fresh_keyed (hash_of n) key t in
-      let u : f ≡ update_of k m = ef ∙ ap (λ (r : Started). update_of r.keyed m) (e ∙ start_accepted n key t h.0 short asked) in
-      let sound = (keyed_held (hash_of n) key t asked).sound in
-      let c : k.count ≡ block_of (hash_of n) = keyed_count (hash_of n) key t in
-      let room = block_most (hash_of n) in
-      elim (dec_le (k.count + length m) most_bytes) [
-        | yes g ↦
-            let fits : length m ≤ most_bytes - block_of (hash_of n) = omega arith in
-            subst (Taken n key m t) (sym (u ∙ update_accepted k m sound g))
-            (record {
-              number = rw (h.0, le-leb (length key) most_bytes short, asked, le-leb (length m) (most_bytes - block_of (hash_of n)) fits);
-              whole = λ d. fresh_message n key m t h.0 short asked fits;
-            })
-        | no g ↦
-            subst (Taken n key m t) (sym (u ∙ update_too_long k m sound (omega arith)))
-            (record {
-              number = rw (h.0, le-leb (length key) most_bytes short, asked, lt-leb (length m) (most_bytes - block_of (hash_of n)) (omega arith));
-              whole = λ d. absurd (omega arith);
-            })
-      ]
+  -- a start that took the key and the tag length
+  module _ {k : Keyed} (o : StartOutcome n key t (started_by (Ok k))) where
+    f : Keyed
+    f = fresh_keyed (hash_of n) key t
+
+    passes : (names n ≡ true) × ((length key ≤ most_bytes) × (allowed (hash_of n) t ≡ true))
+    passes = start_passes n key t ((start_done n key t).0 (sym (ap (λ (s : Started). s.number) o)))
+
+    given : {r : Fed} → r ≡ update_of k m → r ≡ update_of f m
+    unfolding f
+    given u = u ∙ ap (λ (x : Keyed). update_of x m) (ap (λ (s : Started). s.keyed) o ∙ start_fresh n key t (sym (ap (λ (s : Started). s.number) o)))
+
+    accepted : f.count + length m ≤ most_bytes → update_of f m ≡ fed done (after_keyed f m)
+    unfolding f
+    accepted g = update_accepted f m (keyed_held (hash_of n) key t passes.1.1).sound g
+
+    too_long : most_bytes < f.count + length m → update_of f m ≡ fed message_too_long f
+    unfolding f
+    too_long g = update_too_long f m (keyed_held (hash_of n) key t passes.1.1).sound g
+
+    counted : f.count ≡ block_of (hash_of n)
+    unfolding f
+    counted = keyed_count (hash_of n) key t
+
+    -- that takes the message
+    pub message_taken : {k' : Keyed} → UpdateOutcome k m (fed done k') → Taken n key m t (Ok k')
+    unfolding f
+    message_taken {k'} u =
+        let room = block_most (hash_of n) in
+        let c = counted in
+        elim (dec_le (f.count + length m) most_bytes) [
+          | yes g ↦
+              let fits : length m ≤ most_bytes - block_of (hash_of n) = omega arith in
+              let is : k' ≡ after_keyed f m = ap (λ (r : Fed). r.keyed) (given u ∙ accepted g) in
+              record {
+                number = rw (passes.0, le-leb (length key) most_bytes passes.1.0, passes.1.1, le-leb (length m) (most_bytes - block_of (hash_of n)) fits);
+                whole = λ x q.
+                    let same : k' ≡ x = cc in
+                    subst (λ (y : Keyed). Message y n key m t) (sym is ∙ same) (fresh_message n key m t passes.0 passes.1.0 passes.1.1 fits);
+              }
+          | no g ↦ absurd (refusal_not_done MessageTooLong (sym (ap (λ (r : Fed). r.number) (given u ∙ too_long (omega arith)))))
+        ]
+
+    -- or refuses it
+    pub message_refused : {k' : Keyed} {e : Refusal} → UpdateOutcome k m (fed (number_of e) k') → Taken n key m t (Err e)
+    unfolding f
+    message_refused {k'} {e} u =
+        let room = block_most (hash_of n) in
+        let c = counted in
+        elim (dec_le (f.count + length m) most_bytes) [
+          | yes g ↦ absurd (refusal_not_done e (ap (λ (r : Fed). r.number) (given u ∙ accepted g)))
+          | no g ↦
+              let long : message_too_long ≡ first_failing (taken_checks n key m t) =
+              rw (passes.0, le-leb (length key) most_bytes passes.1.0, passes.1.1, lt-leb (length m) (most_bytes - block_of (hash_of n)) (omega arith))
+              in
+              record { number = ap (λ (r : Fed). r.number) (given u ∙ too_long (omega arith)) ∙ long; whole = λ x q. cc }
+        ]

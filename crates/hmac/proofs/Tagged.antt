@@ -1,11 +1,6 @@
 -- Laws of tag and verify once the checks that they share have passed, from what full and the copy or the comparison gave.
 -- Assumes nothing.
-use mathlib.Core.Path.{◌≡◌, sym, ap, ◌∙◌}
-use mathlib.Core.Bool.{Bool, true, cond}
-use mathlib.Core.List.{List}
-use Prim.Native.Nat.{ℕ, ◌≤◌}
-use native.Mathlib.Omega.{arith}
-use lib.ListN.{length, take}
+use Rattle.std.proofs.Common.{◌≡◌, ℕ, ◌≤◌, Bool, cond, true, List, length, take, sym, ap, ◌∙◌, arith}
 use Rattle.octets.specs.Copy.{over}
 use Rattle.octets.specs.Same.{equal, Tells}
 use Rattle.octets.specs.Same.Laws.{tells_equal}
@@ -16,7 +11,7 @@ use Rattle.algorithm.specs.Checks.Laws.{done_passes}
 use Rattle.algorithm.specs.Hashes.Laws.{digest_most}
 use Rattle.algorithm.specs.Refusals.{done, tag_differs}
 use Rattle.hmac.specs.Keyed.{sound_keyed, HeldKeyed, full_tag, keyed_tag}
-use Rattle.hmac.specs.Keyed.Laws.{full_length, length_most}
+use Rattle.hmac.specs.Keyed.Laws.{full_length, length_fits, length_most}
 use Rattle.hmac.specs.Calls.{tag_checks, tag_answer, verify_answer}
 use Rattle.hmac.specs.Calls.Laws.{tag_refusing, tag_passes, tag_accepted, verify_compared}
 use Rattle.hmac.specs.declared.keyed.Keyed.{Keyed}
@@ -26,9 +21,13 @@ pub record Taggable (k : Keyed) (bytes : List ℕ) : Type 0 where
   pub sound : sound_keyed k ≡ true
   pub size : length bytes ≡ k.tag_length
 
-pub taggable : (k : Keyed) (bytes : List ℕ) {r : ℕ} → r ≡ first_failing (tag_checks k bytes) → r ≡ done → Taggable k bytes
-taggable k bytes e d =
-    let p = tag_passes k bytes (done_passes (tag_checks k bytes) (tag_refusing k bytes) (sym e ∙ d)) in record { sound = p.0; size = p.1 }
+pub taggable : (k : Keyed) (bytes : List ℕ) → done ≡ first_failing (tag_checks k bytes) → Taggable k bytes
+taggable k bytes e =
+    let p = tag_passes k bytes (done_passes (tag_checks k bytes) (tag_refusing k bytes) (sym e)) in record { sound = p.0; size = p.1 }
+
+-- so a full tag's room holds the tag
+pub tag_fits : (k : Keyed) (bytes : List ℕ) → done ≡ first_failing (tag_checks k bytes) → k.tag_length ≤ 64
+tag_fits k bytes e = length_fits k (taggable k bytes e).sound
 
 module _ {k : Keyed} {bytes : List ℕ} (T : Taggable k bytes) (h : HeldKeyed k) {whole : List ℕ} (w : whole ≡ zeros_to 64 (full_tag k)) where
   short : k.tag_length ≤ length (full_tag k)

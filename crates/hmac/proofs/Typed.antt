@@ -1,7 +1,5 @@
 -- A keyed state as the code holds one: the lengths that its type says. Assumes nothing.
-use mathlib.Core.Path.{◌≡◌}
-use mathlib.Core.Bool.{true}
-use lib.ListN.{length}
+use Rattle.std.proofs.Common.{◌≡◌, true, length}
 use Rattle.hash.specs.State.{largest_block}
 use Rattle.hmac.specs.Keyed.{sound_keyed, HeldKeyed}
 use Rattle.hmac.specs.declared.keyed.Keyed.{Keyed}

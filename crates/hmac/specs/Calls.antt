@@ -3,23 +3,35 @@
 pub mod Laws
 pub mod Unique
 pub mod Inner
-use Rattle.std.specs.Prelude.{◌≡◌, Bool, List, [], ◌∷◌, ◌++◌, ℕ, ◌+◌, ◌-◌, leb, eqb, length}
+use Rattle.std.specs.Prelude.{◌≡◌, Bool, List, [], ◌∷◌, ◌++◌, ℕ, ◌+◌, ◌-◌, leb, eqb, length, Result}
 use Rattle.octets.specs.Same.{equal}
 use Rattle.algorithm.specs.Hashes.{names, hash_of, block_of, allowed}
 use Rattle.algorithm.specs.Refusals.{tag_differs, unknown_hash, key_too_long, message_too_long, tag_length_out_of_range, wrong_size, state_not_sound, most_bytes}
+use Rattle.algorithm.specs.Answers.{valued}
 use Rattle.algorithm.specs.Checks.{Check, check, first_failing, decided, answered}
 use Rattle.hmac.specs.Hmac.{tag_of}
 use Rattle.hmac.specs.Keyed.{sound_keyed, fresh_keyed, zero_keyed, after_keyed, keyed_tag}
 use Rattle.hmac.specs.declared.keyed.Keyed.{Keyed}
-use Rattle.hmac.specs.declared.keyed.Started.{Started}
-use Rattle.hmac.specs.declared.keyed.Fed.{Fed}
+use Rattle.algorithm.specs.declared.refusals.Refusal.{Refusal}
 
--- an answer with a keyed state
+-- a number with a keyed state: what a start answers, and what a piece leads to
+pub record Started : Type 0 where
+  pub number : ℕ
+  pub keyed : Keyed
+
+pub record Fed : Type 0 where
+  pub number : ℕ
+  pub keyed : Keyed
+
 abbrev pub started : ℕ → Keyed → Started
 started n k = record { number = n; keyed = k }
 
 abbrev pub fed : ℕ → Keyed → Fed
 fed n k = record { number = n; keyed = k }
+
+-- the answer of the code to a start as such a number and keyed state: one that is refused is one with zeros that name hash 1
+abbrev pub started_by : Result Keyed Refusal → Started
+started_by r = let a = valued zero_keyed r in started a.0 a.1
 
 -- start(hash_number, key, tag_length)
 abbrev pub start_checks : ℕ → List ℕ → ℕ → List Check

@@ -1,19 +1,14 @@
 -- Private: what the private functions ask and promise, and what the laws of a whole message speak of. Assumes nothing.
-use Rattle.std.specs.Prelude.{◌≡◌, true, List, ℕ, ◌-◌, ◌≤◌, length}
-use Rattle.algorithm.specs.declared.hashes.Hash.{Hash}
+use Rattle.std.specs.Prelude.{◌≡◌, true, List, ℕ, ◌-◌, ◌≤◌, length, Result, Ok}
 use Rattle.algorithm.specs.Hashes.{names, hash_of, block_of, allowed}
-use Rattle.algorithm.specs.Refusals.{done, most_bytes}
+use Rattle.algorithm.specs.Refusals.{most_bytes}
 use Rattle.algorithm.specs.Checks.{first_failing}
 use Rattle.hmac.specs.Hmac.{hmac_of}
 use Rattle.hmac.specs.Keyed.{sound_keyed, full_tag}
+use Rattle.algorithm.specs.Answers.{number}
+use Rattle.algorithm.specs.declared.refusals.Refusal.{Refusal}
 use Rattle.hmac.specs.Calls.{taken_checks}
 use Rattle.hmac.specs.declared.keyed.Keyed.{Keyed}
-use Rattle.hmac.specs.declared.keyed.Fed.{Fed}
-
--- a number that names this hash
-pub record Naming (n : ℕ) (h : Hash) : Type 0 where
-  pub known : names n ≡ true
-  pub is : hash_of n ≡ h
 
 -- a keyed state for tags of t bytes that has taken exactly a message
 pub record Message (k : Keyed) (n : ℕ) (key m : List ℕ) (t : ℕ) : Type 0 where
@@ -26,6 +21,6 @@ pub record Message (k : Keyed) (n : ℕ) (key m : List ℕ) (t : ℕ) : Type 0 w
   pub tag : full_tag k ≡ hmac_of (hash_of n) key m
 
 -- what became of a message in one piece: the number that its checks give, and where none fails a keyed state that has taken it
-pub record Taken (n : ℕ) (key m : List ℕ) (t : ℕ) (r : Fed) : Type 0 where
-  pub number : r.number ≡ first_failing (taken_checks n key m t)
-  pub whole : r.number ≡ done → Message r.keyed n key m t
+pub record Taken (n : ℕ) (key m : List ℕ) (t : ℕ) (r : Result Keyed Refusal) : Type 0 where
+  pub number : number r ≡ first_failing (taken_checks n key m t)
+  pub whole : (k : Keyed) → r ≡ Ok k → Message k n key m t

@@ -5,9 +5,8 @@ pub mod Lengths
 use Rattle.std.specs.Prelude.{◌≡◌, List, ◌++◌, ℕ}
 use Rattle.algorithm.specs.Pieces.{Work}
 use Rattle.hmac.specs.Keyed.{HeldKeyed, after_keyed}
-use Rattle.hmac.specs.Calls.{update_of}
+use Rattle.hmac.specs.Calls.{Fed, update_of}
 use Rattle.hmac.specs.declared.keyed.Keyed.{Keyed}
-use Rattle.hmac.specs.declared.keyed.Fed.{Fed}
 
 -- what comes of a piece: the number, and the keyed state
 abbrev pub given : Keyed → List ℕ → ℕ × Keyed

@@ -13,9 +13,8 @@ fn end_into(state: State, out: &mut [u8])
     requires room { size_of state.hash ≤ length out.old }
     ensures { out.new ≡ over (end_of state) out.old }
 {
-    let hash = state.hash;
-    let size = algorithm::digest_size(hash);
-    hash::finish(state, &mut out[..size]);
+    let size = algorithm::digest_size(state.hash);
+    hash::finish(state, &mut out[..size]).unwrap();
 }
 
 // With zeros after it.

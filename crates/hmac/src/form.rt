@@ -6,7 +6,6 @@ ghost use Rattle.hash.specs.Digest.{digest_of};
 ghost use Rattle.hash.specs.State.{largest_block, fresh_of, after_of};
 ghost use Rattle.octets.specs.Zeros.{zeros_to};
 ghost use Rattle.hmac.specs.Form.{form_of, masked};
-ghost use Rattle.hmac.specs.Inside.{Naming};
 
 use algorithm::Hash;
 use hash::{LARGEST_BLOCK, State};
@@ -22,52 +21,47 @@ fn copied(bytes: &[u8]) -> [u8; LARGEST_BLOCK]
 }
 
 // The digest of a key, and zeros after it.
-fn digested(hash_number: u32, hash: Hash, key: &[u8]) -> [u8; LARGEST_BLOCK]
-    requires naming { Naming hash_number hash }
-    requires key_fits { length key.now ≤ most_bytes }
+#[inline(never)]
+fn digested(hash: Hash, key: &[u8]) -> [u8; LARGEST_BLOCK]
+    requires { length key.now ≤ most_bytes }
     ensures { result ≡ zeros_to largest_block (digest_of hash key.now) }
 {
-    let started = hash::start(hash_number);
-    let fresh = started.state;
-    let fed = hash::update(fresh, key);
-    let last = fed.state;
-    let digest = crate::ending::ended(last);
+    let mut state = hash::fresh(hash);
+    hash::update(&mut state, key).unwrap();
+    let digest = crate::ending::ended(state);
     copied(&digest)
 }
 
 // The block form of a key, and zeros after it. A key of exactly a block is used as it is.
-pub(crate) fn block_form(hash_number: u32, hash: Hash, key: &[u8]) -> [u8; LARGEST_BLOCK]
-    requires naming { Naming hash_number hash }
-    requires key_fits { length key.now ≤ most_bytes }
+pub(crate) fn block_form(hash: Hash, key: &[u8]) -> [u8; LARGEST_BLOCK]
+    requires { length key.now ≤ most_bytes }
     ensures { result ≡ zeros_to largest_block (form_of hash key.now) }
 {
-    let size = algorithm::block_size(hash);
-    if key.len() <= size {
-        return copied(key);
+    if key.len() <= algorithm::block_size(hash) {
+        copied(key)
+    } else {
+        digested(hash, key)
     }
-    digested(hash_number, hash, key)
 }
 
 // Each byte XOR x.
-fn mask(form: [u8; LARGEST_BLOCK], x: u8) -> [u8; LARGEST_BLOCK]
+fn mask(mut form: [u8; LARGEST_BLOCK], x: u8) -> [u8; LARGEST_BLOCK]
     ensures { result ≡ masked x form }
 {
-    let mut out = form;
-    for i in 0..LARGEST_BLOCK {
-        out[i] = out[i] ^ x;
+    for byte in &mut form {
+        *byte ^= x;
     }
-    out
+    form
 }
 
 // The hash after the pad of a form.
-pub(crate) fn after_pad(hash_number: u32, hash: Hash, form: [u8; LARGEST_BLOCK], x: u8) -> State
-    requires { Naming hash_number hash }
-    ensures { result ≡ after_of (fresh_of hash) (take (block_of hash) (masked x form)) }
+#[inline(never)]
+pub(crate) fn after_pad(hash: Hash, form: &[u8; LARGEST_BLOCK], x: u8) -> State
+    ensures { result ≡ after_of (fresh_of hash) (take (block_of hash) (masked x form.now)) }
 {
-    let pad = mask(form, x);
+    let pad = mask(*form, x);
     let size = algorithm::block_size(hash);
-    let started = hash::start(hash_number);
-    let fresh = started.state;
-    let fed = hash::update(fresh, &pad[..size]);
-    fed.state
+    let mut state = hash::fresh(hash);
+    hash::update(&mut state, &pad[..size]).unwrap();
+    state
 }

@@ -7,7 +7,7 @@ use hash::{LARGEST_BLOCK, State};
 
 // The hash and the length of the tag that it was made for; the inner hash at work, of which the first block counts; and the outer
 // words, which have taken their block and nothing more.
-#[derive(Clone, Copy)]
+#[derive(Clone, Copy, PartialEq, Eq)]
 pub struct Keyed {
     pub hash: Hash,
     pub tag_length: usize,
@@ -15,20 +15,6 @@ pub struct Keyed {
     pub count: u64,
     pub waiting: [u8; LARGEST_BLOCK],
     pub outer: [u64; 8],
-}
-
-// What a keyed start answers.
-#[derive(Clone, Copy)]
-pub struct Started {
-    pub number: u32,
-    pub keyed: Keyed,
-}
-
-// What a piece leads to.
-#[derive(Clone, Copy)]
-pub struct Fed {
-    pub number: u32,
-    pub keyed: Keyed,
 }
 
 // The bytes that the inner hash has taken, the block of the inner pad among them: the length field counts them all.
@@ -42,11 +28,10 @@ fn inner_count(keyed: Keyed) -> u64
 pub(crate) fn inner(keyed: Keyed) -> State
     ensures { result ≡ inner_of keyed }
 {
-    let hash = keyed.hash;
     let words = keyed.words;
     let waiting = keyed.waiting;
     State {
-        hash,
+        hash: keyed.hash,
         words,
         count: inner_count(keyed),
         waiting,
@@ -57,15 +42,12 @@ pub(crate) fn inner(keyed: Keyed) -> State
 pub(crate) fn outer(keyed: Keyed) -> State
     ensures { result ≡ outer_of keyed }
 {
-    let hash = keyed.hash;
     let words = keyed.outer;
-    let waiting = [0u8; LARGEST_BLOCK];
-    let size = algorithm::block_size(hash);
     State {
-        hash,
+        hash: keyed.hash,
         words,
-        count: size as u64,
-        waiting,
+        count: algorithm::block_size(keyed.hash) as u64,
+        waiting: [0; LARGEST_BLOCK],
     }
 }
 
@@ -73,11 +55,10 @@ pub(crate) fn outer(keyed: Keyed) -> State
 pub(crate) fn join(state: State, tag_length: usize, outer: [u64; 8]) -> Keyed
     ensures { result ≡ joined state tag_length outer }
 {
-    let hash = state.hash;
     let words = state.words;
     let waiting = state.waiting;
     Keyed {
-        hash,
+        hash: state.hash,
         tag_length,
         words,
         count: state.count,

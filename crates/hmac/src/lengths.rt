@@ -8,10 +8,5 @@ use algorithm::Hash;
 pub(crate) fn length_allowed(hash: Hash, tag_length: usize) -> bool
     ensures { result ≡ allowed hash tag_length }
 {
-    let shortest = algorithm::shortest_tag(hash);
-    if tag_length < shortest {
-        return false;
-    }
-    let size = algorithm::digest_size(hash);
-    tag_length <= size
+    (algorithm::shortest_tag(hash)..=algorithm::digest_size(hash)).contains(&tag_length)
 }

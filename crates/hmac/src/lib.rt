@@ -11,7 +11,7 @@ mod soundness;
 mod starting;
 mod tags;
 
-pub use keyed::{Fed, Keyed, Started};
+pub use keyed::Keyed;
 pub use one_piece::{tag_message, verify_message};
 pub use pieces::update;
 pub use soundness::sound;

@@ -1,31 +1,20 @@
 // One piece more under a key.
-ghost use Rattle.hmac.specs.Calls.{UpdateOutcome};
+ghost use Rattle.algorithm.specs.Answers.{number};
+ghost use Rattle.hmac.specs.Calls.{fed, UpdateOutcome};
 
-use crate::keyed::{Fed, Keyed};
+use crate::keyed::Keyed;
+use algorithm::Refusal;
 
-// The keyed state after one piece more; 10 where it is not sound, 4 where the bytes would be too many. A refusal hands the given
-// state back.
-pub fn update(keyed: Keyed, piece: &[u8]) -> Fed
-    ensures { UpdateOutcome keyed piece.now result }
+// Takes one piece more; 10 where the keyed state is not sound, 4 where the bytes would be too many. A refusal leaves it as it was.
+#[inline(never)]
+pub fn update(keyed: &mut Keyed, piece: &[u8]) -> Result<(), Refusal>
+    ensures { UpdateOutcome keyed.old piece.now (fed (number result) keyed.new) }
 {
-    let ok = crate::soundness::sound(keyed);
-    if !ok {
-        return Fed {
-            number: algorithm::STATE_NOT_SOUND,
-            keyed,
-        };
+    if !crate::soundness::sound(*keyed) {
+        return Err(Refusal::StateNotSound);
     }
-    let inner = crate::keyed::inner(keyed);
-    let fed = hash::update(inner, piece);
-    let number = fed.number;
-    if number != algorithm::DONE {
-        return Fed { number, keyed };
-    }
-    let next = fed.state;
-    let outer = keyed.outer;
-    let after = crate::keyed::join(next, keyed.tag_length, outer);
-    Fed {
-        number: algorithm::DONE,
-        keyed: after,
-    }
+    let mut inner = crate::keyed::inner(*keyed);
+    hash::update(&mut inner, piece)?;
+    *keyed = crate::keyed::join(inner, keyed.tag_length, keyed.outer);
+    Ok(())
 }

@@ -7,20 +7,8 @@ use crate::keyed::Keyed;
 pub fn sound(keyed: Keyed) -> bool
     ensures { SoundOutcome keyed result }
 {
-    let inner = crate::keyed::inner(keyed);
-    let inner_sound = hash::sound(inner);
-    if !inner_sound {
-        return false;
-    }
-    let outer = crate::keyed::outer(keyed);
-    let outer_sound = hash::sound(outer);
-    if !outer_sound {
-        return false;
-    }
-    let hash = keyed.hash;
-    let size = algorithm::block_size(hash);
-    if keyed.count < size as u64 {
-        return false;
-    }
-    crate::lengths::length_allowed(hash, keyed.tag_length)
+    hash::sound(crate::keyed::inner(keyed))
+        && hash::sound(crate::keyed::outer(keyed))
+        && algorithm::block_size(keyed.hash) as u64 <= keyed.count
+        && crate::lengths::length_allowed(keyed.hash, keyed.tag_length)
 }

@@ -1,70 +1,62 @@
 // The tag of a keyed state, and its comparison with a presented one.
 ghost use Rattle.std.specs.Prelude.{◌≡◌, true};
 ghost use Rattle.octets.specs.Zeros.{zeros_to};
+ghost use Rattle.algorithm.specs.Answers.{number};
 ghost use Rattle.algorithm.specs.Checks.{first_failing};
 ghost use Rattle.hmac.specs.Keyed.{sound_keyed, full_tag};
 ghost use Rattle.hmac.specs.Calls.{tag_checks, TagOutcome, VerifyOutcome};
 
 use crate::keyed::Keyed;
+use algorithm::Refusal;
 
 // The full tag of a sound keyed state, and zeros after it.
 fn full(keyed: Keyed) -> [u8; 64]
     requires { sound_keyed keyed ≡ true }
     ensures { result ≡ zeros_to 64 (full_tag keyed) }
 {
-    let inner = crate::keyed::inner(keyed);
-    let digest = crate::ending::ended(inner);
-    let outer = crate::keyed::outer(keyed);
-    let hash = keyed.hash;
-    let size = algorithm::digest_size(hash);
-    let fed = hash::update(outer, &digest[..size]);
-    let last = fed.state;
-    crate::ending::ended(last)
+    let digest = crate::ending::ended(crate::keyed::inner(keyed));
+    let size = algorithm::digest_size(keyed.hash);
+    let mut outer = crate::keyed::outer(keyed);
+    hash::update(&mut outer, &digest[..size]).unwrap();
+    crate::ending::ended(outer)
 }
 
 // The checks that tag and verify share, of an output or of what is presented: 10 where the state is not sound, 6 where the bytes are
-// not of its tag length, and 0 where neither fails.
-fn check(keyed: Keyed, bytes: &[u8]) -> u32
-    ensures { result ≡ first_failing (tag_checks keyed bytes.now) }
+// not of its tag length.
+fn check(keyed: Keyed, bytes: &[u8]) -> Result<(), Refusal>
+    ensures { number result ≡ first_failing (tag_checks keyed bytes.now) }
 {
-    let ok = crate::soundness::sound(keyed);
-    if !ok {
-        return algorithm::STATE_NOT_SOUND;
+    if !crate::soundness::sound(keyed) {
+        return Err(Refusal::StateNotSound);
     }
-    let size = keyed.tag_length;
-    if bytes.len() != size {
-        return algorithm::WRONG_SIZE;
+    if bytes.len() != keyed.tag_length {
+        return Err(Refusal::WrongSize);
     }
-    algorithm::DONE
+    Ok(())
 }
 
 // The tag of the bytes taken so far, which does not use the state up; 10 where the state is not sound, 6 where the output is not of
 // its tag length.
-pub fn tag(keyed: Keyed, out: &mut [u8]) -> u32
-    ensures { TagOutcome keyed out.old result out.new }
+#[inline(never)]
+pub fn tag(keyed: Keyed, out: &mut [u8]) -> Result<(), Refusal>
+    ensures { TagOutcome keyed out.old (number result) out.new }
 {
-    let refusal = check(keyed, out);
-    if refusal != algorithm::DONE {
-        return refusal;
-    }
+    check(keyed, out)?;
     let whole = full(keyed);
     octets::copy_prefix(&whole, out);
-    algorithm::DONE
+    Ok(())
 }
 
-// Whether the presented bytes are the tag: 0, or 1 where they are not; 10 and 6 as for the tag. The comparison has no early exit.
-pub fn verify(keyed: Keyed, presented: &[u8]) -> u32
-    ensures { VerifyOutcome keyed presented.now result }
+// Whether the presented bytes are the tag: 1 where they are not; 10 and 6 as for the tag. The comparison has no early exit.
+#[inline(never)]
+pub fn verify(keyed: Keyed, presented: &[u8]) -> Result<(), Refusal>
+    ensures { VerifyOutcome keyed presented.now (number result) }
 {
-    let refusal = check(keyed, presented);
-    if refusal != algorithm::DONE {
-        return refusal;
-    }
+    check(keyed, presented)?;
     let whole = full(keyed);
-    let size = keyed.tag_length;
-    let equal = octets::same(presented, &whole[..size]);
-    if equal {
-        return algorithm::DONE;
+    if octets::same(presented, &whole[..keyed.tag_length]) {
+        Ok(())
+    } else {
+        Err(Refusal::TagDiffers)
     }
-    algorithm::TAG_DIFFERS
 }

@@ -1,7 +1,9 @@
 -- Private: the judgement on a report: reading's number, the one that refuses the PRK, or the tag's verdict. Assumes nothing.
-use Rattle.std.specs.Prelude.{cond, List, ℕ, ◌/◌, eqb, length, take, drop, replicate}
-use Rattle.report.specs.Calls.{check_answer, fingerprint_answer, keys_answer}
-use Rattle.report.specs.declared.reading.Reading.{Reading}
+use Rattle.std.specs.Prelude.{cond, List, ℕ, ◌/◌, eqb, length, take, drop, replicate, Result, Ok, Err}
+use Rattle.algorithm.specs.Answers.{number_of, number}
+use Rattle.algorithm.specs.declared.refusals.Refusal.{Refusal}
+use Rattle.report.specs.Calls.{Reading, check_answer, fingerprint_answer, keys_answer}
+use Rattle.inspect.specs.declared.judging.Judged.{Judged}
 
 -- of two keys that stand one after the other, the tag key is the first half and the fingerprint key the second
 abbrev pub half : List ℕ → ℕ
@@ -12,6 +14,11 @@ verdict_under s keys = check_answer s (take (half keys) keys)
 
 abbrev pub fingerprint_under : List ℕ → List ℕ → List ℕ
 fingerprint_under s keys = (fingerprint_answer s (drop (half keys) keys) (replicate 32 0)).1
+
+-- the number of a judgement: that of the tag's check, or the one that refuses the PRK
+abbrev pub verdict_by : Result Judged Refusal → ℕ
+verdict_by (Ok judged) = number judged.tag
+verdict_by (Err e) = number_of e
 
 -- of what deriving the keys answers: the number that refuses it, or the verdict under the keys
 abbrev pub verdict_of : List ℕ → ℕ × List ℕ → ℕ

@@ -1,81 +1,65 @@
 // The capture, a report at a time, in a space that holds the largest.
-ghost use Rattle.std.specs.Prelude.{◌≤◌, length};
+ghost use Rattle.std.specs.Prelude.{◌≤◌, length, IfOk};
 ghost use Rattle.report.specs.Layout.{largest_report};
 ghost use Rattle.inspect.specs.Found.{Fits};
 
 use crate::files;
 use report::LARGEST_REPORT;
+use std::io;
 use std::io::Read;
 
 // The bytes of a report's count.
 const COUNT: usize = 4;
 
-// What stands next in a capture.
+// Why a capture goes on with no report.
 #[derive(Clone, Copy)]
-pub enum Found {
-    // A report of so many bytes, at the start of the space.
-    Report(usize),
-    // Nothing: the capture ends where a report does.
+pub enum Ending {
+    // It ends where a report does.
     End,
-    // A count that is cut off after so many bytes.
+    // A count is cut off after so many bytes.
     CutCount(usize),
-    // A report that has so many bytes by its count, cut off after so many.
+    // A report that has so many bytes by its count is cut off after so many.
     CutReport(usize, usize),
-    // A count that makes a length that leads nowhere.
-    Wild(u64),
-    // A read that failed, and the system's number for why.
-    Failed(i32),
+    // A count makes a length that leads nowhere.
+    Wild(usize),
+    // A read failed.
+    Unreadable(io::Error),
 }
 
-fn as_number(byte: u8) -> u32 {
-    byte as u32
-}
-
-// The number that the first four bytes make.
-fn number(space: &[u8]) -> u32
-    requires { 4 ≤ length space.now }
-{
-    (as_number(space[0]) << 24)
-        | (as_number(space[1]) << 16)
-        | (as_number(space[2]) << 8)
-        | as_number(space[3])
+impl From<io::Error> for Ending {
+    fn from(error: io::Error) -> Ending {
+        Ending::Unreadable(error)
+    }
 }
 
 // The rest of a report that has so many bytes.
-fn rest(capture: &mut impl Read, space: &mut [u8], size: usize) -> Found
+fn rest(capture: &mut impl Read, space: &mut [u8], size: usize) -> Result<usize, Ending>
     requires space_holds_largest { largest_report ≤ length space.old }
     requires size_in_range { (5 ≤ size) × (size ≤ largest_report) }
-    ensures { Fits result }
+    ensures { IfOk result Fits }
 {
-    let came = match files::fill(capture, &mut space[COUNT..size]) {
-        Ok(came) => came,
-        Err(error) => return Found::Failed(files::number(error)),
-    };
-    if came < size - COUNT {
-        return Found::CutReport(size, COUNT + came);
+    let came = COUNT + files::fill(capture, &mut space[COUNT..size])?;
+    if came < size {
+        return Err(Ending::CutReport(size, came));
     }
-    Found::Report(size)
+    Ok(size)
 }
 
-// The next report, also one that is too short to be read. A count of nothing, or of more than a report has, ends the search for more:
-// nothing tells where the next one would start.
-pub(crate) fn next(capture: &mut impl Read, space: &mut [u8]) -> Found
+// How many bytes the next report has, also one that is too short to be read: it stands at the start of the space. A count of nothing, or
+// of more than a report has, ends the search for more: nothing tells where the next one would start.
+pub(crate) fn next(capture: &mut impl Read, space: &mut [u8]) -> Result<usize, Ending>
     requires { largest_report ≤ length space.old }
-    ensures { Fits result }
+    ensures { IfOk result Fits }
 {
-    let came = match files::fill(capture, &mut space[0..COUNT]) {
-        Ok(came) => came,
-        Err(error) => return Found::Failed(files::number(error)),
-    };
-    if came == 0 {
-        return Found::End;
+    match files::fill(capture, &mut space[..COUNT])? {
+        0 => return Err(Ending::End),
+        COUNT => {}
+        came => return Err(Ending::CutCount(came)),
     }
-    if came < COUNT {
-        return Found::CutCount(came);
+    let count = u32::from_be_bytes([space[0], space[1], space[2], space[3]]);
+    let size = COUNT + count as usize;
+    if count == 0 || LARGEST_REPORT < size {
+        return Err(Ending::Wild(size));
     }
-    let size = number(space) as u64 + 4;
-    if size == COUNT as u64 || (LARGEST_REPORT as u64) < size {
-        return Found::Wild(size);
-    }
-    rest(capture, space, size as usize)
+    rest(capture, space, size)
 }

@@ -1,84 +1,48 @@
 // The last line: how the inspection ended. Its first words give the exit status of ./tirmuzzle.
-use crate::capture::Found;
-use crate::{files, say};
+use crate::capture::Ending;
+use crate::files;
 use report::{LARGEST_REPORT, SMALLEST_REPORT};
 use std::io;
 use std::io::{Seek, SeekFrom};
 
-fn say_end(rt: &impl Print, at: u64) -> io::Result<()> {
-    if at == 0 {
-        say::text(rt, b"end: the capture is empty\n")
-    } else {
-        say::sentence(
-            rt,
-            b"end: the capture was read to its end, ",
-            at,
-            b" bytes\n",
-        )
+// A length that leads nowhere, and how many bytes from there on are left over. The system cannot always tell, as of a pipe.
+fn say_wild(rt: &impl Print, capture: &mut impl Seek, at: u64, size: usize) -> io::Result<()> {
+    print!(rt;
+        "wild length: the count at byte {at} makes a report of {size} bytes, and one has {SMALLEST_REPORT} to {LARGEST_REPORT} (11)"
+    )?;
+    match capture.seek(SeekFrom::End(0)) {
+        Ok(end) if at < end => println!(rt; "; the {} bytes from there on are not shown", end - at),
+        _ => println!(rt; "; what stands from there on is not shown"),
     }
 }
 
-fn say_cut_count(rt: &impl Print, at: u64, came: usize) -> io::Result<()> {
-    say::sentence(rt, b"cut off: the report at byte ", at, b"")?;
-    say::sentence(
-        rt,
-        b" is cut off inside its count, after ",
-        came as u64,
-        b" of 4 bytes\n",
-    )
-}
-
-fn say_cut_report(rt: &impl Print, at: u64, size: usize, came: usize) -> io::Result<()> {
-    say::sentence(rt, b"cut off: the report at byte ", at, b"")?;
-    say::sentence(rt, b" has ", size as u64, b" bytes by its count")?;
-    say::sentence(
-        rt,
-        b", and the capture ends after ",
-        came as u64,
-        b" of them\n",
-    )
-}
-
-// A file's size as the system tells it; 0 where it cannot, as of a pipe.
-fn size_told(capture: &mut impl Seek) -> u64 {
-    capture.seek(SeekFrom::End(0)).unwrap_or(0)
-}
-
-// How many bytes from a place on are left over, where the system can tell.
-fn say_left(rt: &impl Print, capture: &mut impl Seek, at: u64) -> io::Result<()> {
-    let size = size_told(capture);
-    if at < size {
-        say::sentence(
-            rt,
-            b"; the ",
-            size - at,
-            b" bytes from there on are not shown\n",
-        )
-    } else {
-        say::text(rt, b"; what stands from there on is not shown\n")
-    }
-}
-
-fn say_wild(rt: &impl Print, capture: &mut impl Seek, at: u64, size: u64) -> io::Result<()> {
-    say::sentence(rt, b"wild length: the count at byte ", at, b"")?;
-    say::sentence(rt, b" makes a report of ", size, b" bytes, and one has ")?;
-    say::sentence(rt, b"", SMALLEST_REPORT as u64, b" to ")?;
-    say::sentence(rt, b"", LARGEST_REPORT as u64, b" (11)")?;
-    say_left(rt, capture, at)
-}
-
+// What stands at a place: a report, of which there are too many, or why there is none.
 pub(crate) fn say(
     rt: &impl Print,
     capture: &mut impl Seek,
     at: u64,
-    found: Found,
+    next: Result<usize, Ending>,
 ) -> io::Result<()> {
-    match found {
-        Found::End => say_end(rt, at),
-        Found::CutCount(came) => say_cut_count(rt, at, came),
-        Found::CutReport(size, came) => say_cut_report(rt, at, size, came),
-        Found::Wild(size) => say_wild(rt, capture, at, size),
-        Found::Failed(error) => files::say_unreadable(rt, b"the capture cannot be read", error),
-        Found::Report(_) => say::text(rt, b"full: no more reports are counted\n"),
+    match next {
+        Ok(_) => println!(rt; "full: no more reports are counted"),
+        Err(Ending::End) if at == 0 => println!(rt; "end: the capture is empty"),
+        Err(Ending::End) => println!(rt; "end: the capture was read to its end, {at} bytes"),
+        Err(Ending::CutCount(came)) => {
+            println!(rt;
+                "cut off: the report at byte {at} is cut off inside its count, after {came} of 4 bytes"
+            )
+        }
+        Err(Ending::CutReport(size, came)) => {
+            println!(rt;
+                "cut off: the report at byte {at} has {size} bytes by its count, and the capture ends after {came} of them"
+            )
+        }
+        Err(Ending::Wild(size)) => say_wild(rt, capture, at, size),
+        Err(Ending::Unreadable(error)) => {
+            println!(rt;
+                "unreadable: the capture cannot be read: {}",
+                files::reason(error)
+            )
+        }
     }
 }

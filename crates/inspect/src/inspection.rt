@@ -4,9 +4,8 @@ ghost use Rattle.report.specs.Layout.{largest_report};
 ghost use Rattle.report.specs.Reading.{read_of};
 ghost use Rattle.report.specs.Calls.{reading_of};
 ghost use Rattle.inspect.specs.Judging.{line_of};
-ghost use Rattle.inspect.specs.Tally.{Adds, live_with};
+ghost use Rattle.inspect.specs.Tally.{live_with};
 
-use crate::capture::Found;
 use crate::tally::{MOST_REPORTS, Tally};
 use crate::{capture, ending, judging, row, tally};
 use std::io;
@@ -17,21 +16,23 @@ const SPACE: usize = 4096;
 
 // The line of a report, and the totals with it.
 fn inspect_one(rt: &impl Print, report: &[u8], prk: &[u8], before: Tally) -> io::Result<Tally>
-    requires adds { Adds before }
     requires room { before.reports < 4503599627370496 }
     requires fits { length report.now ≤ largest_report }
-    ensures adds { IfOk result (λ after. Adds after) }
     ensures reports { IfOk result (λ after. after.reports ≡ before.reports + 1) }
-    ensures live { IfOk result (λ after. after.live ≡ live_with before (line_of report.now (reading_of (read_of report.now)) prk.now) (reading_of (read_of report.now)).live) }
+    ensures live { IfOk result (λ after. after.live ≡ live_with before.live (line_of report.now (reading_of (read_of report.now)) prk.now) (reading_of (read_of report.now)).live) }
 {
-    let read = report::read(report);
-    if read.number != algorithm::DONE {
-        row::say_refused(rt, before.at, read.number)?;
-        return Ok(tally::counted(before, read.number, 0, report.len()));
+    match report::read(report) {
+        Ok(read) => {
+            let judged = judging::judge(report, read, prk);
+            row::say(rt, before.at, read, judged)?;
+            let verdict = judging::verdict(judged);
+            Ok(tally::counted(before, verdict, read.live, report.len()))
+        }
+        Err(refusal) => {
+            row::say_refused(rt, before.at, refusal)?;
+            Ok(tally::counted(before, Err(refusal), 0, report.len()))
+        }
     }
-    let judged = judging::judge(report, read, prk);
-    row::say(rt, before.at, read, judged)?;
-    Ok(tally::counted(before, judged.number, read.live, report.len()))
 }
 
 pub(crate) fn inspect(
@@ -39,19 +40,17 @@ pub(crate) fn inspect(
     capture: &mut (impl Read + Seek),
     prk: &[u8],
 ) -> io::Result<()> {
-    let mut space = [0u8; SPACE];
+    let mut space = [0; SPACE];
     let mut totals = tally::none();
-    let mut found = capture::next(capture, &mut space);
+    let mut next = capture::next(capture, &mut space);
     row::say_names(rt)?;
-    while totals.reports < MOST_REPORTS {
-        let Found::Report(size) = found else {
+    for _ in 0..MOST_REPORTS {
+        let Ok(size) = next else {
             break;
         };
-        let next = inspect_one(rt, &space[0..size], prk, totals)?;
-        totals = next;
-        let after = capture::next(capture, &mut space);
-        found = after;
+        totals = inspect_one(rt, &space[..size], prk, totals)?;
+        next = capture::next(capture, &mut space);
     }
     tally::say(rt, totals)?;
-    ending::say(rt, capture, totals.at, found)
+    ending::say(rt, capture, totals.at, next)
 }

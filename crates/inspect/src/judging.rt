@@ -1,53 +1,54 @@
 // The judgement on a report that reading lets pass: its tag and its fingerprint, under the keys of its machine.
-ghost use Rattle.std.specs.Prelude.{◌≡◌};
-ghost use Rattle.report.specs.Calls.{keys_answer};
-ghost use Rattle.inspect.specs.Judging.{verdict_under, fingerprint_under, verdict_of, judged_of};
+ghost use Rattle.std.specs.Prelude.{◌≡◌, ◌≤◌, IfOk};
+ghost use Rattle.algorithm.specs.Refusals.{tag_differs};
+ghost use Rattle.algorithm.specs.Answers.{number};
+ghost use Rattle.report.specs.Calls.{reading_by};
+ghost use Rattle.inspect.specs.Judging.{verdict_under, fingerprint_under, verdict_by, judged_of};
 
+use algorithm::Refusal;
 use report::Reading;
 
-// The number of the tag's check, or the one that refuses the PRK; and the fingerprint, zeros where the PRK is refused.
+// What a report turns out to be under keys that serve: whether its tag matches or differs, and its fingerprint.
 #[derive(Clone, Copy)]
 pub struct Judged {
-    pub number: u32,
+    pub tag: Result<(), Refusal>,
     pub fingerprint: [u8; 32],
 }
 
-// The judgement under the two keys, the tag key and after it the fingerprint key, which are equally long.
-fn judge_under(report: &[u8], keys: &[u8]) -> Judged
-    ensures number { result.number ≡ verdict_under report.now keys.now }
-    ensures fingerprint { result.fingerprint ≡ fingerprint_under report.now keys.now }
+// The judgement under the two keys, the tag key and after it the fingerprint key. Keys of one length are refused alike, so where the tag is
+// compared the fingerprint is made.
+fn judge_under(report: &[u8], keys: &[u8]) -> Result<Judged, Refusal>
+    ensures number { verdict_by result ≡ verdict_under report.now keys.now }
+    ensures compared { IfOk result (λ judged. number judged.tag ≤ tag_differs) }
+    ensures fingerprint { IfOk result (λ judged. judged.fingerprint ≡ fingerprint_under report.now keys.now) }
 {
-    let half = keys.len() / 2;
-    let mut fingerprint = [0u8; 32];
-    report::fingerprint(report, &keys[half..], &mut fingerprint);
-    Judged {
-        number: report::check(report, &keys[0..half]),
-        fingerprint,
+    let (tag_key, fingerprint_key) = keys.split_at(keys.len() / 2);
+    let tag = report::check(report, tag_key);
+    match tag {
+        Ok(()) | Err(Refusal::TagDiffers) => {
+            let mut fingerprint = [0; 32];
+            let _ = report::fingerprint(report, fingerprint_key, &mut fingerprint);
+            Ok(Judged { tag, fingerprint })
+        }
+        Err(refusal) => Err(refusal),
     }
 }
 
-// The judgement with a space for the keys, which has the bytes of both.
-fn judge_in(report: &[u8], read: Reading, prk: &[u8], keys: &mut [u8]) -> Judged
-    ensures { result.number ≡ verdict_of report.now (keys_answer read.hash prk.now read.tenant read.machine keys.old) }
+// The judgement on a report of which reading is given; what refuses the PRK.
+pub(crate) fn judge(report: &[u8], read: Reading, prk: &[u8]) -> Result<Judged, Refusal>
+    ensures number { verdict_by result ≡ judged_of report.now (reading_by (Ok read)) prk.now }
+    ensures compared { IfOk result (λ judged. number judged.tag ≤ tag_differs) }
 {
-    let number = report::keys(read.hash as u32, prk, read.tenant, read.machine, keys);
-    if number != algorithm::DONE {
-        return Judged {
-            number,
-            fingerprint: [0u8; 32],
-        };
-    }
+    let mut space = [0; 128];
+    let size = if read.hash == 1 { 64 } else { 128 };
+    let keys = &mut space[..size];
+    report::keys(read.hash.into(), prk, read.tenant, read.machine, keys)?;
     judge_under(report, keys)
 }
 
-// The judgement on a report of which reading is given.
-pub(crate) fn judge(report: &[u8], read: Reading, prk: &[u8]) -> Judged
-    ensures { result.number ≡ judged_of report.now read prk.now }
+// What a judgement comes to: the check of the tag, or what refuses the PRK.
+pub(crate) fn verdict(judged: Result<Judged, Refusal>) -> Result<(), Refusal>
+    ensures { number result ≡ verdict_by judged }
 {
-    if read.hash == 1 {
-        let mut keys = [0u8; 64];
-        return judge_in(report, read, prk, &mut keys);
-    }
-    let mut keys = [0u8; 128];
-    judge_in(report, read, prk, &mut keys)
+    judged?.tag
 }

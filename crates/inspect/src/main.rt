@@ -10,7 +10,6 @@ mod judging;
 mod meanings;
 mod prk;
 mod row;
-mod say;
 mod tally;
 
 use std::io;
@@ -20,9 +19,8 @@ const ARGUMENTS: usize = 3;
 
 fn main(rt: HostRuntime) -> io::Result<()> {
     if !files::has_argument(&rt, ARGUMENTS - 1) || files::has_argument(&rt, ARGUMENTS) {
-        return say::text(
-            &rt,
-            b"usage: inspect CAPTURE PRK, two files: reports end to end, and the raw bytes of a PRK\n",
+        return println!(rt;
+            "usage: inspect CAPTURE PRK, two files: reports end to end, and the raw bytes of a PRK"
         );
     }
     prk::inspect(&rt)

@@ -1,19 +1,19 @@
 -- Believed: what each public call answers, for all arguments: its checks in their order, and the work where none fails. An outcome
 -- predicate is what the call's contract says; Calls/Unique.antt shows that no second outcome meets it. Assumes nothing.
 pub mod Unique
-use Rattle.std.specs.Prelude.{◌≡◌, true, false, not, cond, ◌||◌, List, [], ◌∷◌, ◌++◌, ℕ, ◌+◌, ◌≤◌, leb}
+use Rattle.std.specs.Prelude.{◌≡◌, true, false, not, cond, ◌||◌, List, [], ◌∷◌, ◌++◌, ℕ, ◌+◌, ◌≤◌, leb, Result, Ok, Err}
 use Rattle.octets.specs.Sums.{largest_total}
 use Rattle.algorithm.specs.Refusals.{done, state_not_sound, ledger_full, total_too_large}
+use Rattle.algorithm.specs.Answers.{number_of, valued}
 use Rattle.algorithm.specs.Checks.{Check, check, first_failing, decided, Pass}
+use Rattle.algorithm.specs.declared.refusals.Refusal.{Refusal}
 use Rattle.report.specs.Layout.{live_of}
 use Rattle.report.specs.Reading.{fields_of}
 use Rattle.report.specs.Fingerprint.{fingerprint_of}
 use Rattle.report.specs.Calls.{key_checks, tag_checks}
 use Rattle.ledger.specs.Records.{used_record, all_used, taken, total_of, sound, entered}
 use Rattle.ledger.specs.declared.records.Record.{Record}
-use Rattle.ledger.specs.declared.answers.Answer.{Answer}
-use Rattle.ledger.specs.declared.answers.Answer.TheVariants.{New, Seen, Refused}
-use Rattle.ledger.specs.declared.totals.Summed.{Summed}
+use Rattle.ledger.specs.declared.answers.Answer as answers
 
 -- what is submitted: a report and its two keys
 pub record Submission : Type 0 where
@@ -44,6 +44,18 @@ room_checks rs x =
     check (taken (fingerprint_in x) rs || not (all_used rs)) ledger_full
     ∷ check (taken (fingerprint_in x) rs || leb (total_of rs + live_in x) largest_total) total_too_large
     ∷ []
+
+-- what a submission answers: new and entered, seen before, or refused with its number
+pub data Answer : Type 0 where
+  New : Answer
+  Seen : Answer
+  Refused : ℕ → Answer
+
+-- the answer of the code as such a one
+abbrev pub answer_by : Result answers.Answer Refusal → Answer
+answer_by (Ok answers.Answer.New) = New
+answer_by (Ok answers.Answer.Seen) = Seen
+answer_by (Err e) = Refused (number_of e)
 
 -- submit(records, report, tag_key, fingerprint_key)
 abbrev pub submit_checks : List Record → Submission → List Check
@@ -97,7 +109,15 @@ abbrev pub SubmitShownOutcome : List Record → List ℕ → List ℕ → List �
 SubmitShownOutcome rs s tag_key fingerprint_key r seen after =
     ◌≡◌ {A = (ℕ × ℕ) × List Record} ((r, seen), after) (shown (submit_answer rs (submission s tag_key fingerprint_key)))
 
--- total(records)
+-- total(records): the number, and the sum of the used records' live bytes
+pub record Summed : Type 0 where
+  pub number : ℕ
+  pub total : ℕ
+
+-- the answer of the code as such a number and sum: 0 where it is refused
+abbrev pub summed_by : Result ℕ Refusal → Summed
+summed_by r = let a = valued 0 r in record { number = a.0; total = a.1 }
+
 abbrev pub total_checks : List Record → List Check
 total_checks rs = check (sound rs) state_not_sound ∷ []
 

@@ -1,46 +1,39 @@
 -- Private: what the private functions ask and promise. Assumes nothing.
 pub mod Surveying
-use Rattle.std.specs.Prelude.{Bool, true, false, not, cond, ◌&&◌, ◌||◌, List, [], ◌∷◌, ℕ, suc, ◌+◌, ◌*◌, eqb, leb, length, take, get_or, set}
+use Rattle.std.specs.Prelude.{Bool, true, false, not, cond, ◌&&◌, List, [], ◌∷◌, ℕ, suc, ◌+◌, leb, length, take, set, Option, Some, None, Result, Err}
+use Rattle.std.specs.Int.{w64, from_be_bytes}
+use Rattle.std.specs.List.{list_any}
+use Rattle.std.specs.Option.{is_some, ok_or}
+use Rattle.std.specs.Result.{is_ok}
 use Rattle.octets.specs.Same.{equal}
 use Rattle.octets.specs.Sums.{largest_total, plus_of}
-use Rattle.octets.specs.declared.sums.Sum.{Sum}
-use Rattle.algorithm.specs.Refusals.{done, state_not_sound, ledger_full, total_too_large}
+use Rattle.algorithm.specs.Answers.{valued}
+use Rattle.algorithm.specs.Refusals.{state_not_sound, ledger_full, total_too_large}
 use Rattle.algorithm.specs.Checks.{first_failing, decided}
-use Rattle.ledger.specs.Records.{used, is_zero, zero_record, used_record, all_used, used_first, free_zero, taken, none_twice, total_of, entered}
-use Rattle.ledger.specs.Calls.{submission, record_of, report_checks}
+use Rattle.algorithm.specs.declared.refusals.Refusal.{Refusal}
+use Rattle.algorithm.specs.declared.refusals.Refusal.TheVariants.{StateNotSound}
+use Rattle.ledger.specs.Records.{used, is_zero, zero_record, all_used, used_first, free_zero, taken, none_twice, total_of, entered}
+use Rattle.ledger.specs.Calls.{Answer, submission, record_of, report_checks}
+use Rattle.ledger.specs.Calls.Answer.{New, Seen, Refused}
 use Rattle.ledger.specs.declared.records.Record.{Record}
-use Rattle.ledger.specs.declared.answers.Answer.{Answer}
-use Rattle.ledger.specs.declared.answers.Answer.TheVariants.{New, Seen, Refused}
-use Rattle.ledger.specs.declared.judging.Judged.{Judged}
 use Rattle.ledger.specs.declared.surveying.Tally.{Tally}
-use Rattle.ledger.specs.declared.totals.Summed.{Summed}
-use Rattle.ledger.specs.declared.deciding.Verdict.{Verdict}
 
--- the number of a fingerprint's first eight bytes
-abbrev pub four_bytes : ℕ → ℕ → ℕ → ℕ → ℕ
-four_bytes a b c d = ((a * 256 + b) * 256 + c) * 256 + d
-
+-- the number of a fingerprint's first eight bytes, the highest first: it takes no other
 unfoldable pub first_word : List ℕ → ℕ
-first_word f =
-    four_bytes (get_or f 0 0) (get_or f 1 0) (get_or f 2 0) (get_or f 3 0) * 4294967296
-    + four_bytes (get_or f 4 0) (get_or f 5 0) (get_or f 6 0) (get_or f 7 0)
+first_word f = from_be_bytes w64 f
 
--- a report that was judged
-abbrev pub refused_one : ℕ → Judged
-refused_one n = record { number = n; new_record = zero_record }
+-- a report that was judged: the number, and the record that would be entered for it, of zeros where it is refused
+abbrev pub judged_by : Result Record Refusal → ℕ × Record
+judged_by = valued zero_record
 
-abbrev pub accepted_one : List ℕ → ℕ → Judged
-accepted_one fingerprint live = record { number = done; new_record = used_record fingerprint live }
-
-unfoldable pub judged_of : List ℕ → List ℕ → List ℕ → Judged
+unfoldable pub judged_of : List ℕ → List ℕ → List ℕ → ℕ × Record
 judged_of s tag_key fingerprint_key =
     let x = submission s tag_key fingerprint_key in
-    record { number = first_failing (report_checks x); new_record = decided (report_checks x) (record_of x) zero_record }
+    (first_failing (report_checks x), decided (report_checks x) (record_of x) zero_record)
 
 -- one of some records, used or free, has the fingerprint
-unfoldable pub among : List ℕ → List Record → Bool
-among f [] = false
-among f (r ∷ rs) = equal r.fingerprint f || among f rs
+abbrev pub among : List ℕ → List Record → Bool
+among f rs = list_any (λ (r : Record). equal r.fingerprint f) rs
 
 -- how many records are used
 unfoldable pub count_of : List Record → ℕ
@@ -48,8 +41,8 @@ count_of [] = 0
 count_of (r ∷ rs) = cond (used r) (suc (count_of rs)) (count_of rs)
 
 -- a sum of live bytes that knows whether it passed the largest total
-abbrev pub sum_as : ℕ → Sum
-sum_as t = cond (leb t largest_total) (record { over = false; total = t }) (record { over = true; total = 0 })
+abbrev pub sum_as : ℕ → Option ℕ
+sum_as t = cond (leb t largest_total) (Some t) None
 
 -- what a pass over some records found out
 unfoldable pub tally_of : List Record → Tally
@@ -74,46 +67,26 @@ with_free t zero = record { ordered = t.ordered && zero; free = true; used = t.u
 abbrev pub with_record : Tally → Record → Bool → Tally
 with_record t r repeated = cond (used r) (with_used t r.live repeated) (with_free t (is_zero r))
 
--- what a tally says of the whole slice
-abbrev pub sound_in : Tally → Bool
-sound_in t = t.ordered && not t.sum.over
-
-abbrev pub summed_of : Tally → Summed
-summed_of t = cond (sound_in t) (record { number = done; total = t.sum.total }) (record { number = state_not_sound; total = 0 })
+-- what a tally says of the whole slice: the sum of a sound one
+abbrev pub sum_in : Tally → Result ℕ Refusal
+sum_in t = cond t.ordered (ok_or t.sum StateNotSound) (Err StateNotSound)
 
 -- a report that was judged for the records of a tally
-abbrev pub judged_in : Tally → List ℕ → List ℕ → List ℕ → Judged
-judged_in t s tag_key fingerprint_key = cond (sound_in t) (judged_of s tag_key fingerprint_key) (refused_one state_not_sound)
+abbrev pub judged_in : Tally → List ℕ → List ℕ → List ℕ → ℕ × Record
+judged_in t s tag_key fingerprint_key = cond (is_ok (sum_in t)) (judged_of s tag_key fingerprint_key) (state_not_sound, zero_record)
 
--- what is decided: the answer, and what to write
-abbrev pub keeps_all : Answer → Verdict
-keeps_all a = record { answer = a; writes = false; place = 0; new_record = zero_record }
+-- what becomes of a record in some records by a tally of them, whose used ones stand first
+abbrev pub enter_of : Tally → Record → List Record → Answer × List Record
+enter_of t r rs =
+    cond (among r.fingerprint (take t.used rs)) (Seen, rs)
+    (cond (leb (length rs) t.used) (Refused ledger_full, rs)
+    (cond (is_some (plus_of t.sum r.live)) (New, set rs t.used r)
+    (Refused total_too_large, rs)))
 
-abbrev pub placed_of : Tally → Bool → Record → ℕ → Verdict
-placed_of t is_taken r n =
-    cond is_taken (keeps_all Seen)
-    (cond (leb n t.used) (keeps_all (Refused ledger_full))
-    (cond (plus_of t.sum r.live).over (keeps_all (Refused total_too_large))
-    (record { answer = New; writes = true; place = t.used; new_record = r })))
-
-unfoldable pub decided_of : Tally → Bool → Judged → ℕ → Verdict
-decided_of t is_taken j n = cond (eqb j.number done) (placed_of t is_taken j.new_record n) (keeps_all (Refused j.number))
-
--- the records after it
-abbrev pub written_by : Verdict → List Record → List Record
-written_by v rs = cond v.writes (set rs v.place v.new_record) rs
-
--- a judged report in some records
-abbrev pub verdict_of : Judged → List Record → Verdict
-verdict_of j rs = decided_of (tally_of rs) (among j.new_record.fingerprint (take (tally_of rs).used rs)) j (length rs)
-
-unfoldable pub enter_of : Judged → List Record → Answer × List Record
-enter_of j rs = ((verdict_of j rs).answer, written_by (verdict_of j rs) rs)
-
--- what becomes of a report of a fingerprint and live bytes in sound records
-abbrev pub settled : List Record → List ℕ → ℕ → Answer × List Record
-settled rs f live =
-    cond (taken f rs) (Seen, rs)
+-- what becomes of it in sound ones
+abbrev pub settled : List Record → Record → Answer × List Record
+settled rs r =
+    cond (taken r.fingerprint rs) (Seen, rs)
     (cond (all_used rs) (Refused ledger_full, rs)
-    (cond (leb (total_of rs + live) largest_total) (New, entered (used_record f live) rs)
+    (cond (leb (total_of rs + r.live) largest_total) (New, entered r rs)
     (Refused total_too_large, rs)))

@@ -1,32 +1,28 @@
 // What a submission answers, and how C sees it.
-ghost use Rattle.ledger.specs.Calls.{AnswerNumberOutcome, AnswerSeenOutcome};
+ghost use Rattle.ledger.specs.Calls.{answer_by, AnswerNumberOutcome, AnswerSeenOutcome};
 
-// New and entered, seen before, or refused with its number.
-#[derive(Clone, Copy)]
+use algorithm::Refusal;
+
+// New and entered, or seen before.
+#[derive(Clone, Copy, PartialEq, Eq)]
 pub enum Answer {
     New,
     Seen,
-    Refused(u32),
 }
 
 // The number that comes back: 0 unless the submission is refused.
-pub fn answer_number(answer: Answer) -> u32
-    ensures { AnswerNumberOutcome answer result }
+pub fn answer_number(answer: Result<Answer, Refusal>) -> u32
+    ensures { AnswerNumberOutcome (answer_by answer) result }
 {
-    match answer {
-        Answer::New => algorithm::DONE,
-        Answer::Seen => algorithm::DONE,
-        Answer::Refused(number) => number,
-    }
+    algorithm::number(answer)
 }
 
 // 1 where the report was seen before, else 0.
-pub fn answer_seen(answer: Answer) -> u32
-    ensures { AnswerSeenOutcome answer result }
+pub fn answer_seen(answer: Result<Answer, Refusal>) -> u32
+    ensures { AnswerSeenOutcome (answer_by answer) result }
 {
     match answer {
-        Answer::New => 0,
-        Answer::Seen => 1,
-        Answer::Refused(_) => 0,
+        Ok(Answer::Seen) => 1,
+        Ok(Answer::New) | Err(_) => 0,
     }
 }

@@ -1,25 +1,29 @@
 // A judged report in the lent records.
-ghost use Rattle.std.specs.Prelude.{◌≡◌};
-ghost use Rattle.ledger.specs.Inside.{tally_of, enter_of};
+ghost use Rattle.std.specs.Prelude.{◌≡◌, ◌≤◌, length};
+ghost use Rattle.ledger.specs.Calls.{answer_by};
+ghost use Rattle.ledger.specs.Inside.{enter_of};
 
 use crate::answers::Answer;
-use crate::deciding::decide;
-use crate::judging::Judged;
 use crate::records::Record;
-use crate::searching::among_first;
+use crate::searching::among;
 use crate::surveying::Tally;
+use algorithm::Refusal;
 
-// The tally is that of the records, so that they need not be surveyed again.
-pub(crate) fn enter(records: &mut [Record], tally: Tally, judged: Judged) -> Answer
-    requires { tally ≡ tally_of records.old }
-    ensures { (result, records.new) ≡ enter_of judged records.old }
+// The tally is that of the records, so that they need not be surveyed again. The used ones stand first: their number is the place of the
+// first free one.
+pub(crate) fn enter(records: &mut [Record], tally: Tally, record: Record) -> Result<Answer, Refusal>
+    requires { tally.used ≤ length records.old }
+    ensures { (answer_by result, records.new) ≡ enter_of tally «record» records.old }
 {
-    let count = records.len();
-    let taken = among_first(&*records, tally.used, judged.new_record);
-    let verdict = decide(tally, taken, judged, count);
-    let record = verdict.new_record;
-    if verdict.writes {
-        records[verdict.place] = record;
+    if among(&records[..tally.used], record) {
+        return Ok(Answer::Seen);
     }
-    verdict.answer
+    if tally.used >= records.len() {
+        return Err(Refusal::LedgerFull);
+    }
+    if octets::plus(tally.sum, record.live).is_none() {
+        return Err(Refusal::TotalTooLarge);
+    }
+    records[tally.used] = record;
+    Ok(Answer::New)
 }

@@ -2,7 +2,6 @@
 #![tactic(auto)]
 
 mod answers;
-mod deciding;
 mod entering;
 mod judging;
 mod records;
@@ -14,4 +13,4 @@ mod totals;
 pub use answers::{Answer, answer_number, answer_seen};
 pub use records::Record;
 pub use submitting::submit;
-pub use totals::{Summed, total};
+pub use totals::total;

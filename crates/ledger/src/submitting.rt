@@ -1,11 +1,12 @@
 // Submitting a report to a ledger.
-ghost use Rattle.ledger.specs.Calls.{SubmitOutcome};
+ghost use Rattle.ledger.specs.Calls.{answer_by, SubmitOutcome};
 
 use crate::answers::Answer;
 use crate::entering::enter;
 use crate::judging::judge;
 use crate::records::Record;
 use crate::surveying::survey;
+use algorithm::Refusal;
 
 // Counts a report once. Refused with 10 where the records are not sound, then with reading's numbers, 3 where the tag key is too long,
 // 21 where it is too short, 1 where the tag differs, 3 where the fingerprint key is too long, 21 where it is too short; then a report
@@ -16,10 +17,10 @@ pub fn submit(
     report: &[u8],
     tag_key: &[u8],
     fingerprint_key: &[u8],
-) -> Answer
-    ensures { SubmitOutcome records.old report.now tag_key.now fingerprint_key.now result records.new }
+) -> Result<Answer, Refusal>
+    ensures { SubmitOutcome records.old report.now tag_key.now fingerprint_key.now (answer_by result) records.new }
 {
-    let tally = survey(&*records);
-    let judged = judge(tally, report, tag_key, fingerprint_key);
-    enter(records, tally, judged)
+    let tally = survey(records);
+    let record = judge(tally, report, tag_key, fingerprint_key)?;
+    enter(records, tally, record)
 }

@@ -1,38 +1,13 @@
 // The total of a ledger.
-ghost use Rattle.std.specs.Prelude.{◌≡◌};
-ghost use Rattle.ledger.specs.Calls.{TotalOutcome};
-ghost use Rattle.ledger.specs.Inside.{summed_of};
+ghost use Rattle.ledger.specs.Calls.{summed_by, TotalOutcome};
 
 use crate::records::Record;
-use crate::surveying::{Tally, is_sound, survey};
-
-// The number, and the sum of the used records' live bytes, which is 0 where the call is refused.
-#[derive(Clone, Copy)]
-pub struct Summed {
-    pub number: u32,
-    pub total: u64,
-}
-
-fn sum_up(tally: Tally) -> Summed
-    ensures { result ≡ summed_of tally }
-{
-    let sum = tally.sum;
-    if is_sound(tally) {
-        return Summed {
-            number: algorithm::DONE,
-            total: sum.total,
-        };
-    }
-    Summed {
-        number: algorithm::STATE_NOT_SOUND,
-        total: 0,
-    }
-}
+use crate::surveying::{sum_in, survey};
+use algorithm::Refusal;
 
 // The live bytes of the used records, or 10 where the slice is not sound.
-pub fn total(records: &[Record]) -> Summed
-    ensures { TotalOutcome records.now result }
+pub fn total(records: &[Record]) -> Result<u64, Refusal>
+    ensures { TotalOutcome records.now (summed_by result) }
 {
-    let tally = survey(records);
-    sum_up(tally)
+    sum_in(survey(records))
 }

@@ -1,4 +1,3 @@
 pub mod Bits
 pub mod Tells
-pub mod Copied
 pub mod Proved

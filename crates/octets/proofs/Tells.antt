@@ -1,14 +1,6 @@
 -- Laws of two lists compared. Assumes nothing.
-use mathlib.Core.Path.{◌≡◌, ap, sym, ◌∙◌}
-use mathlib.Core.List.{List}
-use Prim.Native.Nat.{ℕ, ◌+◌, ◌<◌}
-use native.Mathlib.Numerals.{add-one}
-use native.Mathlib.Omega.{arith}
-use lib.Bits.{bit_or, bit_xor, xor_self, or_zero_l}
-use lib.Dec.{eqb}
-use lib.ListN.{length, take, get_or}
-use lib.Seq.{take-suc, take-take, get_or-take}
-use borrow.Author.Tests.{eqb-true, eq-eqb}
+use Rattle.std.proofs.Common.{◌≡◌, ap, sym, ◌∙◌, List, ℕ, ◌+◌, ◌<◌, length, take, get_or, take-suc, take-take, get_or-take, add-one, arith, bit_or, bit_xor, eqb, eqb-true, eq-eqb}
+use lib.Bits.{xor_self, or_zero_l}
 use Rattle.octets.specs.Same.{Tells}
 use Rattle.octets.proofs.Bits.{or_zero, xor_zero}
 

@@ -1,15 +1,14 @@
 -- Believed: what each public function promises: the outcome predicate that its contract cites. proofs/Proved/Calls/Unique.antt shows
 -- that no second outcome meets it. Assumes nothing.
-use Rattle.std.specs.Prelude.{◌≡◌, Bool, List, ℕ}
+use Rattle.std.specs.Prelude.{◌≡◌, Bool, List, ℕ, Option}
 use Rattle.octets.specs.Copy.{over}
 use Rattle.octets.specs.Every.{all_zero}
 use Rattle.octets.specs.Number.{bytes}
 use Rattle.octets.specs.Same.{Tells}
 use Rattle.octets.specs.Sums.{plus_of}
-use Rattle.octets.specs.declared.sums.Sum.{Sum}
 
--- copy_prefix(src, out) and copy_numbers(src, out)
-abbrev pub CopyOutcome : List ℕ → List ℕ → List ℕ → Type 0
+-- copy_prefix(src, out)
+abbrev pub CopyOutcome : {A : Type 0} → List A → List A → List A → Type 0
 CopyOutcome src out after = after ≡ over src out
 
 -- all_zero(bytes)
@@ -25,5 +24,5 @@ abbrev pub EightBytesOutcome : ℕ → List ℕ → Type 0
 EightBytesOutcome x r = r ≡ bytes 8 x
 
 -- plus(sum, summand)
-abbrev pub PlusOutcome : Sum → ℕ → Sum → Type 0
+abbrev pub PlusOutcome : Option ℕ → ℕ → Option ℕ → Type 0
 PlusOutcome sum x r = r ≡ plus_of sum x

@@ -8,11 +8,9 @@ pub fn same(a: &[u8], b: &[u8]) -> bool
     if a.len() != b.len() {
         return false;
     }
-    let mut bits: u8 = 0;
-    let mut i = 0;
-    while i < a.len() {
-        bits = bits | (a[i] ^ b[i]);
-        i += 1;
+    let mut bits = 0;
+    for (x, y) in a.iter().zip(b) {
+        bits |= x ^ y;
     }
     bits == 0
 }

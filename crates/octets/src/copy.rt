@@ -1,13 +1,13 @@
-// Copying bytes.
+// Copying.
 ghost use Rattle.octets.specs.Calls.{CopyOutcome};
 
-// Writes the beginning of `src` over the beginning of `out`, as far as both go.
-pub fn copy_prefix(src: &[u8], out: &mut [u8])
+// Writes the beginning of `src` over the beginning of `out`, as far as both go. It goes one by one, since `copy_from_slice` has the
+// archive ask for memmove, and it may ask for memcpy and memset alone.
+pub fn copy_prefix<T: Copy>(src: &[T], out: &mut [T])
     ensures { CopyOutcome src.now out.old out.new }
 {
-    let mut i = 0;
-    while i < src.len() && i < out.len() {
-        out[i] = src[i];
-        i += 1;
+    let count = src.len().min(out.len());
+    for (i, element) in src[..count].iter().enumerate() {
+        out[i] = *element;
     }
 }

@@ -1,4 +1,4 @@
-// Bytes: copying, comparing, the test for zeros; and numbers: their bytes, copying them, and their sum. Every function is total.
+// Copying; comparing bytes, and the test for zeros; the bytes of a number, and the sum of numbers. Every function is total.
 #![tactic(auto)]
 
 mod compare;
@@ -9,6 +9,6 @@ mod zero;
 
 pub use compare::same;
 pub use copy::copy_prefix;
-pub use numbers::{copy_numbers, eight_bytes};
-pub use sums::{Sum, plus};
+pub use numbers::eight_bytes;
+pub use sums::plus;
 pub use zero::all_zero;

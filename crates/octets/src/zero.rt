@@ -6,11 +6,5 @@ ghost use Rattle.octets.specs.Calls.{AllZeroOutcome};
 pub fn all_zero(bytes: &[u8]) -> bool
     ensures { AllZeroOutcome bytes.now result }
 {
-    let mut bits: u8 = 0;
-    let mut i = 0;
-    while i < bytes.len() {
-        bits = bits | bytes[i];
-        i += 1;
-    }
-    bits == 0
+    bytes.iter().fold(0, |bits, byte| bits | byte) == 0
 }

@@ -1,7 +1,7 @@
 -- The parts of a report, written one after the other over the beginning of an output. Assumes nothing.
 use mathlib.Core.Path.{◌≡◌, refl, sym, ap, ◌∙◌}
-use mathlib.Core.Bool.{true}
 use mathlib.Core.List.{List, [], ◌∷◌, ◌++◌, append_assoc, append-nil}
+use mathlib.Core.Bool.{true}
 use Prim.Native.Nat.{ℕ, zero, suc, ◌+◌, ◌-◌, ◌*◌, ◌≤◌, ◌<◌}
 use native.Mathlib.Numerals.{add-one}
 use native.Mathlib.Omega.{arith}
@@ -12,17 +12,24 @@ use borrow.Author.Tests.{leb-true}
 use borrow.Rule.Slice.PartMut.{put_mid}
 use Rattle.octets.specs.Copy.{over}
 use Rattle.octets.specs.Copy.Laws.{over_length, over_short}
+use Rattle.octets.specs.Every.{every}
 use Rattle.octets.specs.Every.Laws.{and_parts, every_at}
-use Rattle.octets.specs.Parts.{part_put, over_paste}
+use Rattle.octets.specs.Parts.{part_put, over_paste, over_more}
 use Rattle.octets.specs.Number.{bytes}
 use Rattle.octets.specs.Number.Laws.{bytes_length}
-use Rattle.octets.specs.Number.Spelled.{byte_bytes}
 use Rattle.octets.specs.Sums.{sum_of}
 use Rattle.octets.specs.Sums.Laws.{sum_more, sum_part}
 use Rattle.algorithm.specs.declared.hashes.Hash.{Hash}
 use Rattle.algorithm.specs.Hashes.{hash_of, block_of, allowed}
 use Rattle.algorithm.specs.Hashes.Laws.{block_most}
-use Rattle.algorithm.specs.Refusals.{most_bytes}
+use Rattle.algorithm.specs.Refusals.{done, most_bytes}
+use Rattle.algorithm.specs.Checks.{written}
+use Rattle.algorithm.specs.Answers.{number}
+use Rattle.algorithm.specs.Answers.Laws.{refusal_not_done}
+use Rattle.algorithm.specs.declared.refusals.Refusal.{Refusal}
+use Rattle.std.specs.Prelude.{Result, Ok, Err}
+use Rattle.std.specs.Result.{IsOk}
+use borrow.Author.Rules.{rules}
 use Rattle.hmac.specs.Hmac.{tag_of}
 use Rattle.hmac.specs.Hmac.Laws.{tag_length_lem}
 use Rattle.hmac.specs.Calls.{tag_message_answer}
@@ -32,21 +39,48 @@ use Rattle.report.specs.Reading.{hash_named}
 use Rattle.report.specs.Reading.Laws.{tag_half}
 use Rattle.report.specs.Writing.{Columns, site_from, sites_from, sites_of, label_fits}
 use Rattle.report.specs.Writing.Reads.{site_length}
-use Rattle.report.specs.Writing.Inside.{number_bytes, Next, site_next, NextPut, Room, tagged, Taggable}
+use Rattle.report.specs.Writing.Inside.{ColumnsFit, Next, site_next, NextPut, Room, tagged, Taggable}
 use Rattle.report.specs.Calls.Laws.{report_hash, tag_allowed}
-use Rattle.report.proofs.Planning.{labels_most}
 
--- a site from its three parts, and the length of the last one
-pub site_spelled : (label : List ℕ) (live blocks : ℕ) → length label ≤ 48 → {q : List ℕ} → q ≡ number_bytes live blocks
-    → ((length label ∷ []) ++ label) ++ q ≡ site_bytes (site_from label live blocks)
-unfolding site_bytes number_bytes
-site_spelled label live blocks h {q} e =
-    let first : length label ∷ [] ≡ bytes 1 (length label) = sym (byte_bytes (length label) (omega arith)) in
-    (λ i. (first i ++ label) ++ e i) ∙ append_assoc (bytes 1 (length label)) label (bytes 8 live ++ bytes 4 blocks)
+-- lengths in their range add up to little
+sum_most : (l : List ℕ) → every label_fits l ≡ true → sum_of l ≤ length l * 48
+unfolding sum_of every
+sum_most [] e = omega arith
+sum_most (n ∷ l) e =
+    let p = and_parts (label_fits n) (every label_fits l) e in
+    omega (arith, leb-true n 48 (and_parts (leb 1 n) (leb n 48) p.0).1, sum_most l p.1)
 
-pub numbers_length : (live blocks : ℕ) → length (number_bytes live blocks) ≡ 12
-unfolding number_bytes
-numbers_length live blocks = simp (length-append, bytes_length)
+pub labels_most : {c : Columns} → ColumnsFit c → length c.labels ≤ 3072
+labels_most {c} r = omega (arith, r.labels_add_up, r.few, sum_most c.lengths r.lengths_fit)
+
+-- what was written over the beginning of an output, in parts that end at a place
+pub record Parts (o a : List ℕ) (at : ℕ) (p : List ℕ) : Type 0 where
+  pub ends : length a ≡ at
+  pub is : p ≡ over a o
+
+pub no_parts : (o : List ℕ) → Parts o [] 0 o
+no_parts o = record { ends = refl; is = sym (over_short [] o (omega arith)) }
+
+-- one part more: the bytes of a number, or a list
+module _ {o a : List ℕ} {at : ℕ} {p : List ℕ} (r : Parts o a at p) where
+  pub number_part : (size n : ℕ) {q : List ℕ} → at + size ≤ length o → q ≡ paste p at (bytes size n) size
+      → Parts o (a ++ bytes size n) (at + size) q
+  number_part size n room e =
+      let long : length (bytes size n) ≡ size = bytes_length size n in
+      record {
+        ends = omega (arith, length-append a (bytes size n), r.ends);
+        is =
+            e
+            ∙ ap (paste p at (bytes size n)) (sym long)
+            ∙ over_paste a (bytes size n) o p at r.ends (omega arith) r.is;
+      }
+
+  pub list_part : (b y : List ℕ) → at + length b ≤ length o → y ≡ over b (take (length p - at) (drop at p))
+      → Parts o (a ++ b) (at + length b) (put_mid at (length p - at) p y)
+  list_part b y room e = record {
+    ends = omega (arith, length-append a b, r.ends);
+    is = over_more a b o p y at (length p - at) r.ends room r.is refl e;
+  }
 
 -- one site more
 sites_more : (labels lengths live blocks : List ℕ) (i : ℕ) → i < length lengths → i < length live → i < length blocks
@@ -100,11 +134,6 @@ far_start c out = record { inside = omega arith; from_is = refl; size = refl; is
 module _ {c : Columns} {out₀ : List ℕ} (r : Room c out₀) {i from : ℕ} {out : List ℕ} (f : Far c out₀ i from out) where
   -- the next site
   module _ (h : i < length c.lengths) where
-    label_most : get_or c.lengths i 0 ≤ 48
-    label_most =
-        leb-true (get_or c.lengths i 0) 48
-        (and_parts (leb 1 (get_or c.lengths i 0)) (leb (get_or c.lengths i 0) 48) (every_at label_fits c.lengths r.columns_fit.lengths_fit i h)).1
-
     label_there : from + get_or c.lengths i 0 ≤ length c.labels
     label_there = omega (arith, f.from_is, sum_more c.lengths i h, sum_part c.lengths (i + 1), r.columns_fit.labels_add_up)
 
@@ -115,9 +144,7 @@ module _ {c : Columns} {out₀ : List ℕ} (r : Room c out₀) {i from : ℕ} {o
       few = r.columns_fit.few;
       live_many = r.columns_fit.live_many;
       blocks_many = r.columns_fit.blocks_many;
-      most = label_most;
       there = label_there;
-      labels = labels_most r.columns_fit;
       room = omega (arith, label_there, f.size, r.room);
     }
 
@@ -199,23 +226,29 @@ module _ {n : ℕ} {key : List ℕ} {at size : ℕ} {out : List ℕ} (t : Taggab
   tag_is = tag_of (hash_named n) key size (take at out)
 
   -- of all bytes up to there, as they are lent
-  pub tag_made : (z : List ℕ) → length z ≡ size → {r : ℕ} {a : List ℕ}
-      → ◌≡◌ {A = ℕ × List ℕ} (r, a) (tag_message_answer n key (take (at - 0) out) size z) → a ≡ tag_is
-  tag_made z ez {r} {a} e =
-      let named = report_hash n t.known in
-      let lent : at - 0 ≡ at = omega arith in
-      let body : length (take at out) ≡ at = length-take-le at out (omega (arith, t.room)) in
-      let fits : length (take at out) ≤ most_bytes - block_of (hash_of n) = omega (arith, t.short, block_most (hash_of n)) in
-      let asked : allowed (hash_of n) size ≡ true =
-      (λ i. allowed (named.1 i) (t.tag i)) ∙ tag_allowed n
-      in
-      ap (λ (w : ℕ × List ℕ). w.1)
-      (e
-      ∙ ap (λ (k : ℕ). tag_message_answer n key (take k out) size z) lent
-      ∙ tag_message_accepted n key (take at out) size z named.0 t.key_fits fits asked ez)
-      ∙ ap (λ (h : Hash). tag_of h key size (take at out)) named.1
+  module _ (z : List ℕ) (ez : length z ≡ size) {r : ℕ} {a : List ℕ}
+      (e : ◌≡◌ {A = ℕ × List ℕ} (r, a) (tag_message_answer n key (take (at - 0) out) size z)) where
+    answer : ◌≡◌ {A = ℕ × List ℕ} (r, a) (written done tag_is)
+    answer =
+        let named = report_hash n t.known in
+        let lent : at - 0 ≡ at = omega arith in
+        let body : length (take at out) ≡ at = length-take-le at out (omega (arith, t.room)) in
+        let fits : length (take at out) ≤ most_bytes - block_of (hash_of n) = omega (arith, t.short, block_most (hash_of n)) in
+        let asked : allowed (hash_of n) size ≡ true =
+        (λ i. allowed (named.1 i) (t.tag i)) ∙ tag_allowed n
+        in
+        e
+        ∙ ap (λ (k : ℕ). tag_message_answer n key (take k out) size z) lent
+        ∙ tag_message_accepted n key (take at out) size z named.0 t.key_fits fits asked ez
+        ∙ ap (λ (h : Hash). written done (tag_of h key size (take at out))) named.1
 
-  pub made_size : {a : List ℕ} → a ≡ tag_is → length a ≡ size
+    pub tag_done : r ≡ done
+    tag_done = ap (λ (w : ℕ × List ℕ). w.0) answer
+
+    pub tag_made : a ≡ tag_is
+    tag_made = ap (λ (w : ℕ × List ℕ). w.1) answer
+
+  made_size : {a : List ℕ} → a ≡ tag_is → length a ≡ size
   made_size e = ap length e ∙ tag_length_lem (hash_named n) key size (take at out) (omega (arith, t.tag, tag_half n))
 
   pub tag_put : (a d y : List ℕ) → a ≡ tag_is → y ≡ over (take size (a ++ d)) (take (length out - at) (drop at out))

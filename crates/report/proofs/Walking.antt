@@ -1,39 +1,29 @@
 -- The walk over the sites, one site at a time: what the definition reads from a place of a report's body. Assumes nothing.
-use mathlib.Core.Path.{◌≡◌, refl, sym, ap, ◌∙◌}
-use mathlib.Core.Bool.{Bool, true, false, cond, ◌&&◌}
-use mathlib.Core.List.{List, []}
-use Prim.Native.Nat.{ℕ, suc, ◌+◌, ◌-◌, ◌≤◌, ◌<◌}
-use native.Mathlib.Decide.{dec_lt}
-use native.Mathlib.Nat.{zero-add, add-zero, add_assoc}
-use native.Mathlib.Numerals.{add-one}
-use native.Mathlib.Omega.{arith}
-use lib.Dec.{leb, ltb}
-use lib.ListN.{length, take, drop, get_or, length-drop, drop_of_length-le}
-use lib.Seq.{drop-cons, drop-drop}
-use borrow.Author.Tests.{le-leb, lt-leb, lt-ltb, le-ltb, ne_eqb}
+use Rattle.std.specs.Prelude.{◌≡◌, refl, Bool, true, false, cond, ◌&&◌, List, [], ℕ, suc, ◌+◌, ◌-◌, ◌≤◌, ◌<◌, leb, ltb, length, take, drop, get_or, Option, Some, None, Result, Err}
+use Rattle.std.proofs.Common.{sym, ap, ◌∙◌, zero-add, add-zero, add_assoc, add-one, arith, lit≤, ltb-false, length-drop, drop-cons, drop-drop, le-leb, lt-ltb, le-ltb}
+use Rattle.std.proofs.lemmas.Bool.{lt-leb}
+use Rattle.std.proofs.Math.Decide.{dec_lt}
+use Rattle.std.proofs.Math.ListN.{drop_of_length-le}
 use Rattle.octets.specs.Number.{number}
-use Rattle.octets.specs.Sums.{largest_total, no_sum, plus_of, SumBy, SumIs}
+use Rattle.octets.specs.Sums.{largest_total, no_sum, plus_of, SumIs}
 use Rattle.octets.specs.Sums.Laws.{plus_is}
-use Rattle.octets.specs.declared.sums.Sum.{Sum}
+use Rattle.algorithm.specs.Answers.{number_of}
+use Rattle.algorithm.specs.Answers.Laws.{refusal_tested, refusal_not_done}
+use Rattle.algorithm.specs.declared.refusals.Refusal.{Refusal}
 use Rattle.algorithm.specs.Refusals.{done, label_length_out_of_range, sites_misplaced, sum_too_large}
 use Rattle.algorithm.specs.Checks.{first_failing}
 use Rattle.report.specs.Layout.{Site, live_of}
 use Rattle.report.specs.Reading.{with_site, read_sites, sites_checks}
-use Rattle.report.specs.Inside.{site_here, Fits, Stepped, end_of, Walked}
-use Rattle.report.specs.declared.walk.Step.{Step}
-use Rattle.report.specs.declared.walk.Counted.{Counted}
+use Rattle.report.specs.Inside.{Step, step_by, Counted, counted_by, site_here, Fits, Stepped, end_of, Walked}
 
 -- a step that is refused
-pub refused_step : (b : List ℕ) (at k : ℕ) {r : Step} → r ≡ record { number = k; next = 0; live = 0 } → (k ≡ done → ⊥)
-    → ((n : ℕ) → (read_sites (suc n) (drop at b)).0 ≡ k) → Stepped b at r
-refused_step b at k {r} e z f =
-    let d : r.number ≡ k = ap (λ (x : Step). x.number) e in
-    record {
-      refuses = λ ne n. f n ∙ sym d;
-      fits = λ y. absurd (z (sym d ∙ y));
-      next = λ y. absurd (z (sym d ∙ y));
-      live = λ y. absurd (z (sym d ∙ y));
-    }
+pub refused_step : (b : List ℕ) (at : ℕ) (e : Refusal) → ((n : ℕ) → (read_sites (suc n) (drop at b)).0 ≡ number_of e) → Stepped b at (step_by (Err e))
+refused_step b at e f = record {
+  refuses = λ z n. f n;
+  fits = λ d. absurd (refusal_not_done e d);
+  next = λ d. absurd (refusal_not_done e d);
+  live = λ d. absurd (refusal_not_done e d);
+}
 
 -- no byte is left for the length of a label
 pub none_left : (b : List ℕ) (at : ℕ) → length b ≤ at → (n : ℕ) → (read_sites (suc n) (drop at b)).0 ≡ sites_misplaced
@@ -102,33 +92,42 @@ none_more b at = elim (dec_lt at (length b)) [
       ap (read_sites 0) (drop_of_length-le b {i = at} k) ∙ rw (le-ltb at (length b) k)
 ]
 
--- the end of the walk answers by what it found: bytes left, a sum that passed, or the sum
-walk_end : (w : ℕ × List Site) (left : Bool) (sum : Sum) (t : ℕ) → w.0 ≡ cond left sites_misplaced done → live_of w.1 ≡ t → SumIs sum t
-    → (r : Counted) → r.live ≤ largest_total → r ≡ end_of left sum → (r.number ≡ first_failing (sites_checks w)) × (r.number ≡ done → r.live ≡ live_of w.1)
-walk_end w left sum t en el es r fits e = by_case left sum.over en es e
+-- a sum, where there is one, is not above the largest total: the sum of nothing is not, nor is one with a number more
+abbrev pub InRange : Option ℕ → Type 0
+InRange None = Unit {0}
+InRange (Some n) = n ≤ largest_total
+
+in_range_more : (a : Option ℕ) (x : ℕ) → InRange a → InRange (plus_of a x)
+in_range_more None x h = tt
+in_range_more (Some n) x h = by_case (ltb (largest_total - n) x) refl
   where
-    by_case : (l o : Bool) → w.0 ≡ cond l sites_misplaced done → SumBy o sum.total t
-        → r ≡ cond l (record { number = sites_misplaced; live = 0 }) (cond o (record { number = sum_too_large; live = 0 }) (record { number = done; live = sum.total }))
-        → (r.number ≡ first_failing (sites_checks w)) × (r.number ≡ done → r.live ≡ live_of w.1)
-    by_case true o n s q =
-        let k : r.number ≡ sites_misplaced = ap (λ (x : Counted). x.number) q in
-        (k ∙ rw n, λ d. absurd (omega arith))
-    by_case false true n s q =
-        let k : r.number ≡ sum_too_large = ap (λ (x : Counted). x.number) q in
-        (k ∙ rw (n, lt-leb (live_of w.1) largest_total (omega arith)), λ d. absurd (omega arith))
-    by_case false false n s q =
-        let k : r.number ≡ done = ap (λ (x : Counted). x.number) q in
-        let live : r.live ≡ live_of w.1 = ap (λ (x : Counted). x.live) q ∙ s ∙ sym el in
-        (k ∙ rw (n, le-leb (live_of w.1) largest_total (omega arith)), λ d. live)
+    by_case : (b : Bool) → ltb (largest_total - n) x ≡ b → InRange (cond b None (Some (n + x)))
+    by_case true e = tt
+    by_case false e = omega (arith, ltb-false (largest_total - n) x e)
+
+-- the end of the walk answers by what it found: bytes left, a sum that passed, or the sum
+walk_end : (w : ℕ × List Site) (left : Bool) (sum : Option ℕ) (t : ℕ) → w.0 ≡ cond left sites_misplaced done → live_of w.1 ≡ t → SumIs sum t
+    → InRange sum → (r : Counted) → r ≡ end_of left sum → (r.number ≡ first_failing (sites_checks w)) × (r.number ≡ done → r.live ≡ live_of w.1)
+walk_end w true sum t en el es k r e =
+    let n : r.number ≡ sites_misplaced = ap (λ (x : Counted). x.number) e in
+    (n ∙ rw en, λ d. absurd (omega arith))
+walk_end w false None t en el es k r e =
+    let n : r.number ≡ sum_too_large = ap (λ (x : Counted). x.number) e in
+    (n ∙ rw (en, lt-leb (live_of w.1) largest_total (omega arith)), λ d. absurd (omega arith))
+walk_end w false (Some m) t en el es k r e =
+    let n : r.number ≡ done = ap (λ (x : Counted). x.number) e in
+    let live : r.live ≡ live_of w.1 = ap (λ (x : Counted). x.live) e ∙ es ∙ sym el in
+    (n ∙ rw (en, le-leb (live_of w.1) largest_total (omega arith)), λ d. live)
 
 -- how far the walk is: the sites passed have t live bytes, and the rest are read from here on
-pub record Far (b : List ℕ) (sites at : ℕ) (sum : Sum) (i : ℕ) : Type 0 where
+pub record Far (b : List ℕ) (sites at : ℕ) (sum : Option ℕ) (i : ℕ) : Type 0 where
   pub inside : at ≤ length b
   pub below : i ≤ sites
   pub t : ℕ
   pub number : (read_sites sites (drop 45 b)).0 ≡ (read_sites (sites - i) (drop at b)).0
   pub live : live_of (read_sites sites (drop 45 b)).1 ≡ t + live_of (read_sites (sites - i) (drop at b)).1
   pub sums : SumIs sum t
+  pub in_range : InRange sum
 
 pub far_start : (b : List ℕ) (sites : ℕ) → 45 ≤ length b → Far b sites 45 no_sum 0
 far_start b sites h =
@@ -140,9 +139,10 @@ far_start b sites h =
       number = ap (λ (k : ℕ). (read_sites k (drop 45 b)).0) (sym e);
       live = ap (λ (k : ℕ). live_of (read_sites k (drop 45 b)).1) (sym e) ∙ sym (zero-add (live_of (read_sites (sites - 0) (drop 45 b)).1));
       sums = refl;
+      in_range = lit≤ tt;
     }
 
-module _ (b : List ℕ) (sites at : ℕ) (sum : Sum) (i : ℕ) (f : Far b sites at sum i) where
+module _ (b : List ℕ) (sites at : ℕ) (sum : Option ℕ) (i : ℕ) (f : Far b sites at sum i) where
   module _ (r : Step) (s : Stepped b at r) (l : i < sites) where
     one : sites - i ≡ suc (sites - (i + 1))
     one = omega arith
@@ -171,6 +171,7 @@ module _ (b : List ℕ) (sites at : ℕ) (sum : Sum) (i : ℕ) (f : Far b sites 
               ∙ ap (λ (k : ℕ). f.t + (k + live_of (read_sites (sites - (i + 1)) (drop r.next b)).1)) (sym (s.live z))
               ∙ sym (add_assoc f.t r.live (live_of (read_sites (sites - (i + 1)) (drop r.next b)).1));
           sums = plus_is sum r.live f.t f.sums;
+          in_range = in_range_more sum r.live f.in_range;
         }
 
   -- after the last site
@@ -189,11 +190,11 @@ module _ (b : List ℕ) (sites at : ℕ) (sum : Sum) (i : ℕ) (f : Far b sites 
         ∙ ap (λ (x : ℕ × List Site). f.t + live_of x.1) (none_more b at)
         ∙ add-zero f.t
 
-    pub far_end : (r : Counted) → r.live ≤ largest_total → r ≡ end_of (ltb at (length b)) sum → Walked b sites r
-    far_end r fits e =
-        let k = walk_end (read_sites sites (drop 45 b)) (ltb at (length b)) sum f.t end_number end_live f.sums r fits e in
+    pub far_end : (r : Counted) → r ≡ end_of (ltb at (length b)) sum → Walked b sites r
+    far_end r e =
+        let k = walk_end (read_sites sites (drop 45 b)) (ltb at (length b)) sum f.t end_number end_live f.sums f.in_range r e in
         record { number = k.0; live = k.1 }
 
 -- sites that are refused
-pub refused_walk : (b : List ℕ) (sites k : ℕ) → (read_sites sites (drop 45 b)).0 ≡ k → (k ≡ done → ⊥) → Walked b sites (record { number = k; live = 0 })
-refused_walk b sites k e z = record { number = rw (e, ne_eqb k done z); live = λ y. absurd (z y) }
+pub refused_walk : (b : List ℕ) (sites : ℕ) (e : Refusal) → (read_sites sites (drop 45 b)).0 ≡ number_of e → Walked b sites (counted_by (Err e))
+refused_walk b sites e k = record { number = rw (k, refusal_tested e); live = λ d. absurd (refusal_not_done e d) }

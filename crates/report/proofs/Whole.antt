@@ -1,61 +1,49 @@
 -- The whole report: its parts together, and what the plan says of it. Assumes nothing.
 use mathlib.Core.Path.{◌≡◌, refl, sym, ap, ◌∙◌}
-use mathlib.Core.Bool.{Bool, not}
+use mathlib.Core.Bool.{false}
 use mathlib.Core.List.{List, [], ◌∷◌, ◌++◌, append_assoc}
-use Prim.Native.Nat.{ℕ, ◌+◌, ◌-◌, ◌*◌, ◌≤◌}
+use Prim.Native.Nat.{ℕ, ◌+◌, ◌-◌, ◌*◌, ◌≤◌, ◌<◌}
 use native.Mathlib.Omega.{arith}
-use lib.Dec.{leb, ltb, eqb}
+use lib.Dec.{leb}
 use lib.ListN.{length, take, drop, length-append}
 use lib.Seq.{take_at, drop_at, drop-drop}
+use borrow.Author.Tests.{lt-leb}
 use borrow.Rule.Slice.PartMut.{put_mid}
+use Rattle.std.specs.Prelude.{Ok, Err}
 use Rattle.octets.specs.Copy.{over}
 use Rattle.octets.specs.Copy.Laws.{over_length, over_short}
 use Rattle.octets.specs.Parts.{over_more}
 use Rattle.octets.specs.Number.Laws.{bytes_length}
 use Rattle.algorithm.specs.Refusals.{done, buffer_too_short}
 use Rattle.algorithm.specs.Checks.{Check, check, first_failing}
-use Rattle.algorithm.specs.Checks.Laws.{append_refuses, append_passes, passes_done}
+use Rattle.algorithm.specs.Checks.Laws.{append_refuses, append_passes, done_passes}
+use Rattle.algorithm.specs.Answers.{number_of}
+use Rattle.algorithm.specs.Answers.Laws.{refusal_not_done}
+use Rattle.algorithm.specs.declared.refusals.Refusal.{Refusal}
+use Rattle.algorithm.specs.declared.refusals.Refusal.TheVariants.{BufferTooShort}
 use Rattle.hmac.specs.Hmac.{tag_of}
 use Rattle.report.specs.Layout.{Site, Fields, sites_bytes, bytes_of, tag_size_of}
 use Rattle.report.specs.Reading.{hash_named}
 use Rattle.report.specs.Reading.Laws.{tag_most}
 use Rattle.report.specs.Writing.{Columns, sites_of, fields_from, tag_for, report_of}
 use Rattle.report.specs.Writing.Reads.{body_length}
-use Rattle.report.specs.Writing.Inside.{ColumnsFit, Planned, Accepted, plan_checks, body_size_of, plan_of, last_of, first_bytes, other_bytes, head_bytes, tagged, Taggable, Filling}
-use Rattle.report.specs.Calls.{key_checks, write_checks, refused_write, write_answer}
-use Rattle.report.specs.Calls.Laws.{key_fits}
+use Rattle.report.specs.Writing.Inside.{ColumnsFit, Planned, Accepted, plan_checks, body_size_of, Plan, plan_by, plan_of, head_bytes, tagged, Taggable, Filling}
+use Rattle.report.specs.Calls.{key_checks, write_checks, written_by, WriteOutcome}
+use Rattle.report.specs.Calls.Laws.{key_fits, key_refusing}
 use Rattle.report.specs.Calls.RoundTrip.{tag_size_lem, sites_length}
-use Rattle.report.specs.Calls.Write.{plan_refusing, planned, accepted, write_accepted, write_refused}
+use Rattle.report.specs.Calls.Write.{plan_refusing, planned, write_accepted, write_refused}
 use Rattle.report.specs.declared.writing.Heading.{Heading}
-use Rattle.report.specs.declared.writing.Written.{Written}
-use Rattle.report.specs.declared.plans.Plan.{Plan}
-use Rattle.report.proofs.Planning.{labels_most, last_is}
-use Rattle.report.proofs.Parts.{sites_size}
+use Rattle.report.proofs.Parts.{labels_most, sites_size}
 
 -- the head has 45 bytes, and with the sites it is what the fields spell
-first_length : (h : Heading) (count : ℕ) → length (first_bytes h count) ≡ 18
-unfolding first_bytes
-first_length h count = simp (length-append, bytes_length)
-
-other_length : (h : Heading) (sites : ℕ) → length (other_bytes h sites) ≡ 27
-unfolding other_bytes
-other_length h sites = simp (length-append, bytes_length)
-
 head_length : (h : Heading) (count sites : ℕ) → length (head_bytes h count sites) ≡ 45
-head_length h count sites = omega (arith, length-append (first_bytes h count) (other_bytes h sites), first_length h count, other_length h sites)
+unfolding head_bytes
+head_length h count sites = simp (length-append, bytes_length)
 
 head_spelled : (h : Heading) (xs : List Site)
     → head_bytes h (fields_from h xs).count (length xs) ++ sites_bytes xs ≡ bytes_of (fields_from h xs)
-unfolding first_bytes other_bytes bytes_of
+unfolding head_bytes bytes_of
 head_spelled h xs = simp append_assoc
-
--- it is written in its two parts
-pub head_put : (h : Heading) (count sites : ℕ) {a b : List ℕ} → a ≡ first_bytes h count → b ≡ other_bytes h sites → (out o y : List ℕ)
-    → 45 ≤ length out → o ≡ over a out → y ≡ over b (take (length o - 18) (drop 18 o))
-    → put_mid 18 (length o - 18) o y ≡ over (head_bytes h count sites) out
-head_put h count sites {a} {b} ea eb out o y room eo ey =
-    over_more a b out o y 18 (length o - 18) (ap length ea ∙ first_length h count) (omega (arith, ap length eb, other_length h sites)) eo refl ey
-    ∙ (λ i. over (ea i ++ eb i) out)
 
 -- the sizes of the parts
 module _ (h : Heading) (c : Columns) (key : List ℕ) (r : ColumnsFit c) where
@@ -134,64 +122,56 @@ module _ {h : Heading} {c : Columns} {key : List ℕ} {body tag : ℕ} {out : Li
         ∙ sym (append_assoc text (tag_for made_fields key) (drop (length (text ++ tag_for made_fields key)) out))
         ∙ sym (over_short (text ++ tag_for made_fields key) out (omega (arith, F.room)))
 
--- what a write answers, by its plan
-module _ (h : Heading) (c : Columns) (key out : List ℕ) (p : Plan) (e : p ≡ plan_of h.hash c) where
+-- what a write answers, by its plan and its last checks
+module _ (h : Heading) (c : Columns) (key out : List ℕ) where
   abbrev report : List ℕ
   report = report_of (fields_from h (sites_of c)) key
 
-  abbrev last_checks : List Check
-  last_checks = key_checks key ++ (check (leb (length report) (length out)) buffer_too_short ∷ [])
+  abbrev buffer : List Check
+  buffer = check (leb (length report) (length out)) buffer_too_short ∷ []
 
-  number : p.number ≡ first_failing (plan_checks h.hash c)
-  number = ap (λ (x : Plan). x.number) e
+  refused : (e : Refusal) → first_failing (write_checks h c key out) ≡ number_of e → WriteOutcome h c key out (written_by (Err e)) out
+  refused e n = sym (write_refused h c key out (number_of e) n (refusal_not_done e))
 
-  pub stopped : (p.number ≡ done → ⊥) → {r : Written} → r ≡ refused_write p.number → ◌≡◌ {A = Written × List ℕ} (r, out) (write_answer h c key out)
-  stopped z {r} er =
-      (λ i. (er i, out))
-      ∙ sym (write_refused h c key out p.number (append_refuses (plan_checks h.hash c) last_checks (λ d. z (number ∙ d)) ∙ sym number) z)
+  pub plan_refused : (e : Refusal) → plan_by (Err e) ≡ plan_of h.hash c → WriteOutcome h c key out (written_by (Err e)) out
+  plan_refused e is =
+      let n : number_of e ≡ first_failing (plan_checks h.hash c) = ap (λ (x : Plan). x.number) is in
+      refused e (append_refuses (plan_checks h.hash c) (key_checks key ++ buffer) (λ d. refusal_not_done e (n ∙ d)) ∙ sym n)
 
-  module _ (d : p.number ≡ done) where
+  module _ {body tag : ℕ} (is : ◌≡◌ {A = Plan} (record { number = done; body_size = body; tag_size = tag }) (plan_of h.hash c)) where
     passes : first_failing (plan_checks h.hash c) ≡ done
-    passes = sym number ∙ d
+    passes = sym (ap (λ (x : Plan). x.number) is)
 
     plan : Planned h.hash c
     plan = planned h.hash c passes
 
-    body : p.body_size ≡ body_size_of c
-    body = ap (λ (x : Plan). x.body_size) e ∙ rw passes
+    before : body ≡ body_size_of c
+    before = ap (λ (x : Plan). x.body_size) is ∙ rw passes
 
-    tag : p.tag_size ≡ tag_size_of h.hash
-    tag = ap (λ (x : Plan). x.tag_size) e ∙ rw passes
+    after : tag ≡ tag_size_of h.hash
+    after = ap (λ (x : Plan). x.tag_size) is ∙ rw passes
 
-    size : length report ≡ p.body_size + p.tag_size
-    size = report_size h c key plan.columns_fit ∙ sym (λ i. body i + tag i)
+    size : length report ≡ body + tag
+    size = report_size h c key plan.columns_fit ∙ sym (λ i. before i + after i)
 
-    pub small : (p.body_size ≤ 3949) × (p.tag_size ≤ 32)
-    small = (omega (arith, body, plan.columns_fit.few, labels_most plan.columns_fit), omega (arith, tag, tag_most h.hash))
+    last : first_failing (write_checks h c key out) ≡ first_failing (key_checks key ++ buffer)
+    last = append_passes (plan_checks h.hash c) (key_checks key ++ buffer) passes (plan_refusing h.hash c)
 
-    -- by its last checks
-    module _ {k n : ℕ} (ek : k ≡ first_failing (key_checks key))
-        {short : Bool} (es : short ≡ ltb (length out) (p.body_size + p.tag_size)) (en : n ≡ last_of k (not (eqb k done)) short) where
-      last_number : n ≡ first_failing (write_checks h c key out)
-      last_number =
-          en
-          ∙ ap (last_of k (not (eqb k done))) es
-          ∙ (λ i. last_of (ek i) (not (eqb (ek i) done)) (ltb (length out) (sym size i)))
-          ∙ last_is key out (length report)
-          ∙ sym (append_passes (plan_checks h.hash c) last_checks passes (plan_refusing h.hash c))
+    pub key_refused : (e : Refusal) → number_of e ≡ first_failing (key_checks key) → WriteOutcome h c key out (written_by (Err e)) out
+    key_refused e n = refused e (last ∙ append_refuses (key_checks key) buffer (λ d. refusal_not_done e (n ∙ d)) ∙ sym n)
 
-      pub stopped_last : (n ≡ done → ⊥) → {r : Written} → r ≡ refused_write n → ◌≡◌ {A = Written × List ℕ} (r, out) (write_answer h c key out)
-      stopped_last z {r} er = (λ i. (er i, out)) ∙ sym (write_refused h c key out n (sym last_number) z)
+    module _ (k : done ≡ first_failing (key_checks key)) where
+      pub too_short : length out < body + tag → WriteOutcome h c key out (written_by (Err BufferTooShort)) out
+      too_short l =
+          let fails : leb (length report) (length out) ≡ false = lt-leb (length report) (length out) (omega (arith, size)) in
+          refused BufferTooShort (last ∙ append_passes (key_checks key) buffer (sym k) (key_refusing key) ∙ rw fails)
 
-      module _ (dn : n ≡ done) where
-        ok : Accepted h c key out
-        ok = accepted h c key out (sym last_number ∙ dn)
+      pub filling : body + tag ≤ length out → Filling h c key body tag out
+      filling fits = record { planned = plan; key_fits = key_fits key (sym k); before = before; after = after; room = fits }
 
-        pub filling : Filling h c key p.body_size p.tag_size out
-        filling = record { planned = plan; key_fits = key_fits key (passes_done ok.key_passes); before = body; after = tag; room = omega (arith, size, ok.room) }
-
-        pub wrote : (z : List ℕ) → z ≡ over report out
-            → ◌≡◌ {A = Written × List ℕ} (record { number = done; length = p.body_size + p.tag_size }, z) (write_answer h c key out)
-        wrote z ez =
-            let is : z ≡ report ++ drop (length report) out = ez ∙ over_short report out ok.room in
-            (λ i. (record { number = done; length = sym size i }, is i)) ∙ sym (write_accepted h c key out ok)
+      pub wrote : body + tag ≤ length out → {z : List ℕ} → z ≡ over report out → WriteOutcome h c key out (written_by (Ok (body + tag))) z
+      wrote fits {z} ez =
+          let key_passes = done_passes (key_checks key) (key_refusing key) (sym k) in
+          let a : Accepted h c key out = record { planned = plan; key_passes = key_passes; room = omega (arith, size) } in
+          let is : z ≡ report ++ drop (length report) out = ez ∙ over_short report out a.room in
+          (λ i. (record { number = done; length = sym size i }, is i)) ∙ sym (write_accepted h c key out a)

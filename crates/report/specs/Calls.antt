@@ -6,26 +6,42 @@ pub mod Write
 pub mod Short
 pub mod RoundTrip
 pub mod Unique
-use Rattle.std.specs.Prelude.{◌≡◌, ◌&&◌, ℕ, zero, suc, ◌+◌, ◌*◌, ◌≤◌, leb, ltb, eqb, length, take, drop, get_or}
+use Rattle.std.specs.Prelude.{◌≡◌, ◌&&◌, ℕ, zero, suc, ◌+◌, ◌*◌, ◌≤◌, leb, ltb, eqb, length, take, drop, get_or, Result, Ok, Err}
+use Rattle.std.specs.Borrow.{Bor}
 use mathlib.Core.List.{List, [], ◌∷◌, ◌++◌, map, flatten}
 use Rattle.octets.specs.Every.{every}
 use Rattle.octets.specs.Sums.{sum_of, largest_total}
 use Rattle.algorithm.specs.Hashes.{size_of}
 use Rattle.algorithm.specs.Refusals.{done, unknown_hash, key_too_long, key_too_short, wrong_size, prk_too_short, too_many_sites, label_length_out_of_range, sites_misplaced, sum_too_large, no_such_site, buffer_too_short, most_bytes}
+use Rattle.algorithm.specs.Answers.{number_of, valued}
 use Rattle.algorithm.specs.Checks.{Check, check, first_failing, decided, answered}
 use Rattle.hmac.specs.Hmac.{tag_of}
 use Rattle.hmac.specs.Calls.{compare_checks}
 use Rattle.report.specs.Layout.{Site, Fields, live_of}
-use Rattle.report.specs.Reading.{names_hash, hash_named, hash_in, tag_size_in, tag_start, before_tag, sites_in, read_checks, fields_of, read_of}
+use Rattle.report.specs.Reading.{names_hash, hash_named, hash_in, tag_size_in, tag_start, before_tag, sites_in, read_checks, fields_of, no_fields, read_of}
 use Rattle.report.specs.Fingerprint.{fingerprint_of}
 use Rattle.report.specs.Keys.{keys_of}
 use Rattle.report.specs.Writing.{Columns, columns, sites_of, fields_from, report_of, label_fits}
-use Rattle.report.specs.declared.reading.Reading.{Reading}
-use Rattle.report.specs.declared.sites.SiteAt.{SiteAt}
+use Rattle.algorithm.specs.declared.refusals.Refusal.{Refusal}
+use Rattle.report.specs.declared.reading.Reading as reading
+use Rattle.report.specs.declared.sites.SiteAt as sites
 use Rattle.report.specs.declared.writing.Heading.{Heading}
-use Rattle.report.specs.declared.writing.Written.{Written}
 
 -- read(report): the number, every field, how many sites and the sum of their live bytes
+pub record Reading : Type 0 where
+  pub number : ℕ
+  pub count : ℕ
+  pub version : ℕ
+  pub hash : ℕ
+  pub tenant : ℕ
+  pub machine : ℕ
+  pub report : ℕ
+  pub sent : ℕ
+  pub attempt : ℕ
+  pub memory : ℕ
+  pub sites : ℕ
+  pub live : ℕ
+
 abbrev pub reading_of : ℕ × Fields → Reading
 reading_of r = record {
   number = r.0;
@@ -41,6 +57,24 @@ reading_of r = record {
   sites = length r.1.sites;
   live = live_of r.1.sites;
 }
+
+-- the answer of the code as such a reading: all zero where the report is refused
+abbrev pub reading_by : Result reading.Reading Refusal → Reading
+reading_by (Ok r) = record {
+  number = done;
+  count = r.count;
+  version = r.version;
+  hash = r.hash;
+  tenant = r.tenant;
+  machine = r.machine;
+  report = r.report;
+  sent = r.sent;
+  attempt = r.attempt;
+  memory = r.memory;
+  sites = r.sites;
+  live = r.live;
+}
+reading_by (Err e) = reading_of (number_of e, no_fields)
 
 abbrev pub ReadOutcome : List ℕ → Reading → Type 0
 ReadOutcome s r = r ≡ reading_of (read_of s)
@@ -85,7 +119,14 @@ before xs zero = 0
 before [] (suc i) = 0
 before (x ∷ xs) (suc i) = length x.label + 13 + before xs i
 
--- site(report, place)
+-- site(report, place): the number, where the label starts in the report, its length, live bytes and live blocks
+pub record SiteAt : Type 0 where
+  pub number : ℕ
+  pub start : ℕ
+  pub length : ℕ
+  pub live : ℕ
+  pub blocks : ℕ
+
 abbrev pub place_checks : List ℕ → ℕ → List Check
 place_checks s place = read_checks s ++ (check (ltb place (length (sites_in s).1)) no_such_site ∷ [])
 
@@ -100,6 +141,11 @@ found_site xs place = record {
 
 abbrev pub refused_site : ℕ → SiteAt
 refused_site n = record { number = n; start = 0; length = 0; live = 0; blocks = 0 }
+
+-- the answer of the code as such a site: all zero where it is refused
+abbrev pub site_by : Result sites.SiteAt Refusal → SiteAt
+site_by (Ok r) = record { number = done; start = r.start; length = r.length; live = r.live; blocks = r.blocks }
+site_by (Err e) = refused_site (number_of e)
 
 pub site_answer : List ℕ → ℕ → SiteAt
 site_answer s place = decided (place_checks s place) (found_site (sites_in s).1 place) (refused_site (first_failing (place_checks s place)))
@@ -123,7 +169,11 @@ site_into_answer s place numbers = answered (site_into_checks s place numbers) (
 abbrev pub SiteIntoOutcome : List ℕ → ℕ → List ℕ → ℕ → List ℕ → Type 0
 SiteIntoOutcome s place numbers r after = ◌≡◌ {A = ℕ × List ℕ} (r, after) (site_into_answer s place numbers)
 
--- label(report, place, number)
+-- label(report, place): the number, and the label, which is empty where it is refused
+abbrev pub label_by : Result (Bor (List ℕ)) Refusal → List ℕ
+label_by (Ok part) = part.now
+label_by (Err e) = []
+
 pub label_answer : List ℕ → ℕ → ℕ × List ℕ
 label_answer s place = answered (place_checks s place) (site_of (sites_in s).1 place).label []
 
@@ -175,7 +225,7 @@ keys_answer n prk tenant machine out = answered (keys_checks n prk out) (keys_of
 abbrev pub KeysOutcome : ℕ → List ℕ → ℕ → ℕ → List ℕ → ℕ → List ℕ → Type 0
 KeysOutcome n prk tenant machine out r after = ◌≡◌ {A = ℕ × List ℕ} (r, after) (keys_answer n prk tenant machine out)
 
--- write(heading, labels, lengths, live, blocks, tag_key, out): the number, the length of the report, and the buffer
+-- write(heading, columns, tag_key, out): the number, the length of the report, and the buffer
 abbrev pub column_checks : Columns → List Check
 column_checks c =
     check (eqb (length c.live) (length c.lengths) && eqb (length c.blocks) (length c.lengths)) wrong_size
@@ -190,6 +240,14 @@ write_checks h c key out =
     check (names_hash h.hash) unknown_hash
     ∷ column_checks c
     ++ (key_checks key ++ (check (leb (length (report_of (fields_from h (sites_of c)) key)) (length out)) buffer_too_short ∷ []))
+
+pub record Written : Type 0 where
+  pub number : ℕ
+  pub length : ℕ
+
+-- the answer of the code as such a number and length: 0 where it is refused
+abbrev pub written_by : Result ℕ Refusal → Written
+written_by r = let a = valued 0 r in record { number = a.0; length = a.1 }
 
 abbrev pub refused_write : ℕ → Written
 refused_write n = record { number = n; length = 0 }

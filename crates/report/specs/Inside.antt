@@ -1,19 +1,17 @@
 -- Private: what the private functions ask and promise, and what the laws on the way to the calls speak of. Assumes nothing.
-use Rattle.std.specs.Prelude.{◌≡◌, Bool, true, cond, ◌&&◌, List, [], ◌∷◌, ◌++◌, ℕ, suc, ◌+◌, ◌-◌, ◌*◌, ◌^◌, ◌≤◌, ◌<◌, leb, length, take, drop, get_or}
+use Rattle.std.specs.Prelude.{◌≡◌, Bool, true, false, cond, ◌&&◌, List, [], ◌∷◌, ◌++◌, ℕ, suc, ◌+◌, ◌-◌, ◌*◌, ◌^◌, ◌≤◌, ◌<◌, leb, length, take, drop, get_or, Result, Ok, Err, Option, Some, None}
 use Rattle.octets.specs.Number.{number_at, bytes}
 use Rattle.octets.specs.Sums.{largest_total}
-use Rattle.octets.specs.declared.sums.Sum.{Sum}
 use Rattle.algorithm.specs.Hashes.{names, hash_of, block_of, size_of}
 use Rattle.algorithm.specs.Refusals.{done, sites_misplaced, sum_too_large, most_bytes}
 use Rattle.algorithm.specs.Checks.{Check, first_failing, decided}
 use Rattle.report.specs.Layout.{Site, Fields, sites_bytes, smallest_report, live_of}
 use Rattle.report.specs.Reading.{names_hash, tag_size_in, tag_start, first_site, with_site, read_sites, sites_in, start_checks, hash_checks, sites_checks, read_checks, fields_of, no_fields}
-use Rattle.report.specs.Calls.{reading_of, site_of, before}
-use Rattle.report.specs.declared.walk.Step.{Step}
-use Rattle.report.specs.declared.walk.Counted.{Counted}
-use Rattle.report.specs.declared.checks.Head.{Head}
-use Rattle.report.specs.declared.checks.Checked.{Checked}
-use Rattle.report.specs.declared.reading.Reading.{Reading}
+use Rattle.report.specs.Calls.{Reading, reading_of, site_of, before}
+use Rattle.algorithm.specs.Answers.{number_of, valued}
+use Rattle.algorithm.specs.declared.refusals.Refusal.{Refusal}
+use Rattle.report.specs.declared.walk.Step as walk
+use Rattle.report.specs.declared.checks.Checked as checks
 
 -- sites that are not refused, of which one is the first
 pub record First (n size : ℕ) (l : List ℕ) : Type 0 where
@@ -67,18 +65,35 @@ pub record Fits (body : List ℕ) (at : ℕ) : Type 0 where
   pub room : at + get_or body at 0 + 13 ≤ length body
   pub reads : (n : ℕ) → read_sites (suc n) (drop at body) ≡ with_site (site_here body at) (read_sites n (drop (at + get_or body at 0 + 13) body))
 
--- one site of the walk
+-- one site of the walk: the number that refuses it, where the next one starts, and its live bytes
+pub record Step : Type 0 where
+  pub number : ℕ
+  pub next : ℕ
+  pub live : ℕ
+
+abbrev pub step_by : Result walk.Step Refusal → Step
+step_by (Ok s) = record { number = done; next = s.next; live = s.live }
+step_by (Err e) = record { number = number_of e; next = 0; live = 0 }
+
 pub record Stepped (body : List ℕ) (at : ℕ) (r : Step) : Type 0 where
   pub refuses : (r.number ≡ done → ⊥) → (n : ℕ) → (read_sites (suc n) (drop at body)).0 ≡ r.number
   pub fits : r.number ≡ done → Fits body at
   pub next : r.number ≡ done → r.next ≡ at + get_or body at 0 + 13
   pub live : r.number ≡ done → r.live ≡ number_at body (at + get_or body at 0 + 1) 8
 
+-- the number that refuses the sites, and else the sum of their live bytes
+pub record Counted : Type 0 where
+  pub number : ℕ
+  pub live : ℕ
+
+abbrev pub counted_by : Result ℕ Refusal → Counted
+counted_by r = let a = valued 0 r in record { number = a.0; live = a.1 }
+
 -- the end of the walk
-abbrev pub end_of : Bool → Sum → Counted
-end_of left a =
-    cond left (record { number = sites_misplaced; live = 0 })
-    (cond a.over (record { number = sum_too_large; live = 0 }) (record { number = done; live = a.total }))
+abbrev pub end_of : Bool → Option ℕ → Counted
+end_of true a = record { number = sites_misplaced; live = 0 }
+end_of false None = record { number = sum_too_large; live = 0 }
+end_of false (Some n) = record { number = done; live = n }
 
 -- the whole walk
 pub record Walked (body : List ℕ) (sites : ℕ) (r : Counted) : Type 0 where
@@ -89,15 +104,30 @@ pub record Walked (body : List ℕ) (sites : ℕ) (r : Counted) : Type 0 where
 abbrev pub head_checks : List ℕ → List Check
 head_checks s = start_checks s ++ hash_checks s
 
-abbrev pub stopped_head : ℕ → Head
-stopped_head n = record { number = n; end = 0 }
+pub record Head : Type 0 where
+  pub number : ℕ
+  pub end : ℕ
+
+abbrev pub head_by : Result ℕ Refusal → Head
+head_by r = let a = valued 0 r in record { number = a.0; end = a.1 }
 
 abbrev pub head_of : List ℕ → Head
 head_of s = record { number = first_failing (head_checks s); end = decided (head_checks s) (tag_start s) 0 }
 
 -- all checks, with what they found out
+pub record Checked : Type 0 where
+  pub number : ℕ
+  pub hash : ℕ
+  pub end : ℕ
+  pub sites : ℕ
+  pub live : ℕ
+
 abbrev pub stopped : ℕ → Checked
 stopped n = record { number = n; hash = 0; end = 0; sites = 0; live = 0 }
+
+abbrev pub checked_by : Result checks.Checked Refusal → Checked
+checked_by (Ok c) = record { number = done; hash = c.hash; end = c.end; sites = c.sites; live = c.live }
+checked_by (Err e) = stopped (number_of e)
 
 abbrev pub checked_of : List ℕ → Checked
 checked_of s = record {

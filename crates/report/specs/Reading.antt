@@ -1,14 +1,14 @@
 -- Believed: reading a report (docs/PROTOCOL.md, "Reports"): one total function from bytes to the number and the fields. It is open, so
 -- that a report's reading computes. Assumes nothing.
 pub mod Laws
-use Rattle.std.specs.Prelude.{◌≡◌, Bool, true, cond, ◌&&◌, ◌||◌, List, [], ◌∷◌, ◌++◌, ℕ, zero, suc, ◌+◌, ◌-◌, leb, eqb, length, take, drop}
+use Rattle.std.specs.Prelude.{◌≡◌, Bool, true, cond, ◌&&◌, ◌||◌, List, [], ◌∷◌, ◌++◌, ℕ, zero, suc, ◌+◌, ◌-◌, leb, eqb, length, take, drop, Result, Ok, Err}
 use Rattle.octets.specs.Number.{number_at}
 use Rattle.octets.specs.Every.{all_bytes}
 use Rattle.octets.specs.Sums.{largest_total}
 use Rattle.algorithm.specs.declared.hashes.Hash.{Hash}
 use Rattle.algorithm.specs.declared.hashes.Hash.TheVariants.{Sha256, Sha512}
-use Rattle.algorithm.specs.declared.hashes.Named.{Named}
-use Rattle.algorithm.specs.declared.hashes.Named.TheVariants.{Is, Unknown}
+use Rattle.algorithm.specs.declared.refusals.Refusal.{Refusal}
+use Rattle.algorithm.specs.declared.refusals.Refusal.TheVariants.{UnknownHash}
 use Rattle.algorithm.specs.Refusals.{done, unknown_hash, wrong_report_length, unknown_version, too_many_sites, label_length_out_of_range, sites_misplaced, sum_too_large}
 use Rattle.algorithm.specs.Checks.{Check, check, first_failing, decided}
 use Rattle.report.specs.Layout.{Site, Fields, tag_size_of, smallest_report, live_of}
@@ -20,8 +20,8 @@ names_hash n = eqb n 1 || eqb n 2
 abbrev pub hash_named : ℕ → Hash
 hash_named n = cond (eqb n 2) Sha512 Sha256
 
-abbrev pub named_in : ℕ → Named
-named_in n = cond (names_hash n) (Is (hash_named n)) Unknown
+abbrev pub named_in : ℕ → Result Hash Refusal
+named_in n = cond (names_hash n) (Ok (hash_named n)) (Err UnknownHash)
 
 -- the hash of a report, the bytes of its tag, where the tag starts, and all bytes before it
 abbrev pub hash_in : List ℕ → Hash

@@ -1,14 +1,24 @@
-// Sites as they are handed over to be written, in columns: the labels end to end, and a slice each of label lengths, live bytes and
-// live blocks.
-ghost use Rattle.std.specs.Prelude.{◌≡◌, ◌≤◌, length};
+// Sites as they are handed over to be written, in columns.
+ghost use Rattle.std.specs.Prelude.{◌≡◌, true, ◌≤◌, length};
 ghost use Rattle.octets.specs.Every.{every};
 ghost use Rattle.octets.specs.Sums.{sum_of, SumIs};
+ghost use Rattle.algorithm.specs.Answers.{number};
 ghost use Rattle.algorithm.specs.Checks.{first_failing};
-ghost use Rattle.report.specs.Writing.{columns, label_fits};
+ghost use Rattle.report.specs.Writing.{label_fits};
 ghost use Rattle.report.specs.Calls.{column_checks};
+ghost use Rattle.report.specs.Lent.{columns_in};
 
 use crate::format::{LONGEST_LABEL, MOST_SITES};
-use octets::Sum;
+use algorithm::Refusal;
+
+// The labels end to end, and a slice each of label lengths, live bytes and live blocks.
+#[derive(Clone, Copy)]
+pub struct Columns<'a> {
+    pub labels: &'a [u8],
+    pub lengths: &'a [u32],
+    pub live: &'a [u64],
+    pub blocks: &'a [u32],
+}
 
 // Whether a label may be so long.
 fn label_fits(length: u32) -> bool
@@ -22,22 +32,7 @@ fn label_fits(length: u32) -> bool
 fn labels_fit(lengths: &[u32]) -> bool
     ensures { result ≡ every label_fits lengths.now }
 {
-    let mut i = 0;
-    while i < lengths.len() {
-        let fits = label_fits(lengths[i]);
-        if !fits {
-            return false;
-        }
-        i += 1;
-    }
-    true
-}
-
-// A length as a wider number; in a function of its own its size needs no proof.
-fn wide(length: u32) -> u64
-    ensures { result ≡ length }
-{
-    length as u64
+    lengths.iter().all(|length| label_fits(*length))
 }
 
 // The sum of the lengths. So few of them cannot pass 2^64 - 1.
@@ -46,56 +41,43 @@ fn sum_lengths(lengths: &[u32]) -> u64
     ensures { result ≡ sum_of lengths.now }
 {
     let mut sum: u64 = 0;
-    let mut i = 0;
-    while i < lengths.len() {
-        sum += wide(lengths[i]);
-        i += 1;
+    for length in lengths {
+        sum += u64::from(*length);
     }
     sum
 }
 
-// The sum of the live bytes, which knows whether it passed 2^64 - 1.
-fn sum_live(live: &[u64]) -> Sum
+// The sum of the live bytes; none where it passed 2^64 - 1.
+fn sum_live(live: &[u64]) -> Option<u64>
     ensures { SumIs result (sum_of live.now) }
 {
-    let mut sum = Sum {
-        over: false,
-        total: 0,
-    };
-    let mut i = 0;
-    while i < live.len() {
-        let next = octets::plus(sum, live[i]);
-        sum = next;
-        i += 1;
+    let mut sum = Some(0);
+    for bytes in live {
+        sum = octets::plus(sum, *bytes);
     }
     sum
 }
 
 // 6 where the slices are of unequal length, 13 where there are too many sites, 14 where a label's length is out of range, 15 where the
 // labels do not have as many bytes as the lengths add up to, 16 where the live bytes add up to too much.
-pub(crate) fn check_columns(labels: &[u8], lengths: &[u32], live: &[u64], blocks: &[u32]) -> u32
-    ensures { result ≡ first_failing (column_checks (columns labels.now lengths.now live.now blocks.now)) }
+pub(crate) fn check_columns(columns: &Columns<'_>) -> Result<(), Refusal>
+    ensures { number result ≡ first_failing (column_checks (columns_in columns.now)) }
 {
-    if live.len() != lengths.len() {
-        return algorithm::WRONG_SIZE;
+    let sites = columns.lengths.len();
+    if columns.live.len() != sites || columns.blocks.len() != sites {
+        return Err(Refusal::WrongSize);
     }
-    if blocks.len() != lengths.len() {
-        return algorithm::WRONG_SIZE;
+    if MOST_SITES < sites as u64 {
+        return Err(Refusal::TooManySites);
     }
-    if MOST_SITES < lengths.len() as u64 {
-        return algorithm::TOO_MANY_SITES;
+    if !labels_fit(columns.lengths) {
+        return Err(Refusal::LabelLengthOutOfRange);
     }
-    let fit = labels_fit(lengths);
-    if !fit {
-        return algorithm::LABEL_LENGTH_OUT_OF_RANGE;
+    if columns.labels.len() as u64 != sum_lengths(columns.lengths) {
+        return Err(Refusal::SitesMisplaced);
     }
-    if labels.len() as u64 != sum_lengths(lengths) {
-        return algorithm::SITES_MISPLACED;
+    if sum_live(columns.live).is_none() {
+        return Err(Refusal::SumTooLarge);
     }
-    let sum = sum_live(live);
-    let over = sum.over;
-    if over {
-        return algorithm::SUM_TOO_LARGE;
-    }
-    algorithm::DONE
+    Ok(())
 }

@@ -1,12 +1,13 @@
 // The two keys of a machine, from one PRK.
 ghost use Rattle.std.specs.Prelude.{◌≡◌};
+ghost use Rattle.algorithm.specs.Answers.{number};
 ghost use Rattle.algorithm.specs.Hashes.{hash_of};
 ghost use Rattle.report.specs.Keys.{info_of, keys_of};
 ghost use Rattle.report.specs.Calls.{KeysOutcome};
 ghost use Rattle.report.specs.Inside.{Derivable};
 
 use crate::format::hash_named;
-use algorithm::Named;
+use algorithm::Refusal;
 
 // The purposes of a key.
 const TAG: u8 = 1;
@@ -17,10 +18,10 @@ const FINGERPRINT: u8 = 2;
 fn info(purpose: u8, tenant: u32, machine: u64) -> [u8; 16]
     ensures { result ≡ info_of purpose tenant machine }
 {
-    let t = octets::eight_bytes(tenant as u64);
-    let m = octets::eight_bytes(machine);
+    let t = tenant.to_be_bytes();
+    let m = machine.to_be_bytes();
     [
-        0, 14, 1, purpose, t[4], t[5], t[6], t[7], m[0], m[1], m[2], m[3], m[4], m[5], m[6], m[7],
+        0, 14, 1, purpose, t[0], t[1], t[2], t[3], m[0], m[1], m[2], m[3], m[4], m[5], m[6], m[7],
     ]
 }
 
@@ -31,29 +32,32 @@ fn derive(hash_number: u32, size: usize, prk: &[u8], tenant: u32, machine: u64, 
 {
     let tag_info = info(TAG, tenant, machine);
     let fingerprint_info = info(FINGERPRINT, tenant, machine);
-    hkdf::expand(hash_number, prk, &tag_info, &mut out[..size]);
-    hkdf::expand(hash_number, prk, &fingerprint_info, &mut out[size..]);
+    hkdf::expand(hash_number, prk, &tag_info, &mut out[..size]).unwrap();
+    hkdf::expand(hash_number, prk, &fingerprint_info, &mut out[size..]).unwrap();
 }
 
 // The tag key, then the fingerprint key; 2 where no report names the hash, 3 where the PRK is too long, 6 where the output has not the
 // bytes of two digests, 7 where the PRK is shorter than one.
-pub fn keys(hash_number: u32, prk: &[u8], tenant: u32, machine: u64, out: &mut [u8]) -> u32
-    ensures { KeysOutcome hash_number prk.now tenant machine out.old result out.new }
+pub fn keys(
+    hash_number: u32,
+    prk: &[u8],
+    tenant: u32,
+    machine: u64,
+    out: &mut [u8],
+) -> Result<(), Refusal>
+    ensures { KeysOutcome hash_number prk.now tenant machine out.old (number result) out.new }
 {
-    let named = hash_named(hash_number);
-    let Named::Is(hash) = named else {
-        return algorithm::UNKNOWN_HASH;
-    };
+    let hash = hash_named(hash_number)?;
     let size = algorithm::digest_size(hash);
     if algorithm::MOST_BYTES < prk.len() as u64 {
-        return algorithm::KEY_TOO_LONG;
+        return Err(Refusal::KeyTooLong);
     }
     if out.len() != 2 * size {
-        return algorithm::WRONG_SIZE;
+        return Err(Refusal::WrongSize);
     }
     if prk.len() < size {
-        return algorithm::PRK_TOO_SHORT;
+        return Err(Refusal::PrkTooShort);
     }
     derive(hash_number, size, prk, tenant, machine, out);
-    algorithm::DONE
+    Ok(())
 }

@@ -3,7 +3,7 @@ ghost use Rattle.std.specs.Prelude.{◌≡◌};
 ghost use Rattle.report.specs.Layout.{tag_size_of};
 ghost use Rattle.report.specs.Reading.{named_in};
 
-use algorithm::{Hash, Named};
+use algorithm::{Hash, Refusal};
 
 // The fewest and the most bytes of a report.
 pub const SMALLEST_REPORT: usize = 61;
@@ -31,13 +31,13 @@ pub(crate) const FINGERPRINT: usize = 32;
 pub(crate) const SHORTEST_REPORT_KEY: usize = 16;
 
 // The hash that a report names by a number. Reports have their own list: a hash that other calls make is none of theirs.
-pub(crate) fn hash_named(hash_number: u32) -> Named
+pub(crate) fn hash_named(hash_number: u32) -> Result<Hash, Refusal>
     ensures { result ≡ named_in hash_number }
 {
     match hash_number {
-        1 => Named::Is(Hash::Sha256),
-        2 => Named::Is(Hash::Sha512),
-        _ => Named::Unknown,
+        1 => Ok(Hash::Sha256),
+        2 => Ok(Hash::Sha512),
+        _ => Err(Refusal::UnknownHash),
     }
 }
 

@@ -16,6 +16,7 @@ mod tags;
 mod walk;
 mod writing;
 
+pub use columns::Columns;
 pub use derivation::keys;
 pub use fingerprints::fingerprint;
 pub use format::{LARGEST_REPORT, SMALLEST_REPORT};
@@ -23,4 +24,4 @@ pub use lists::{read_into, site_into};
 pub use reading::{Reading, read};
 pub use sites::{SiteAt, label, site};
 pub use tags::check;
-pub use writing::{Heading, Written, write};
+pub use writing::{Heading, write};

@@ -1,15 +1,15 @@
 // Reading a report: the number and every field.
-ghost use Rattle.std.specs.Prelude.{◌≡◌, ◌≤◌, length};
-ghost use Rattle.report.specs.Calls.{ReadOutcome};
-ghost use Rattle.report.specs.Inside.{refused_reading, head_reading};
+ghost use Rattle.std.specs.Prelude.{◌≡◌, ◌≤◌, length, Ok};
+ghost use Rattle.report.specs.Calls.{reading_by, ReadOutcome};
+ghost use Rattle.report.specs.Inside.{head_reading};
 
 use crate::checks::check_report;
 use crate::numbers::number_at;
+use algorithm::Refusal;
 
-// The number that refuses a report, and else its fields, with the sum of live bytes.
-#[derive(Clone, Copy)]
+// The fields of a report, with the sum of live bytes.
+#[derive(Clone, Copy, Default)]
 pub struct Reading {
-    pub number: u32,
     pub count: u32,
     pub version: u8,
     pub hash: u8,
@@ -23,32 +23,12 @@ pub struct Reading {
     pub live: u64,
 }
 
-fn refused(number: u32) -> Reading
-    ensures { result ≡ refused_reading number }
-{
-    Reading {
-        number,
-        count: 0,
-        version: 0,
-        hash: 0,
-        tenant: 0,
-        machine: 0,
-        report: 0,
-        sent: 0,
-        attempt: 0,
-        memory: 0,
-        sites: 0,
-        live: 0,
-    }
-}
-
 // The fields of a report whose live bytes are known.
 fn fields(report: &[u8], live: u64) -> Reading
     requires { 45 ≤ length report.now }
-    ensures { result ≡ head_reading report.now live }
+    ensures { reading_by (Ok result) ≡ head_reading report.now live }
 {
     Reading {
-        number: algorithm::DONE,
         count: number_at(report, 0, 4) as u32,
         version: number_at(report, 4, 1) as u8,
         hash: number_at(report, 5, 1) as u8,
@@ -63,13 +43,10 @@ fn fields(report: &[u8], live: u64) -> Reading
     }
 }
 
-// The number and every field; all zero where the report is refused.
-pub fn read(report: &[u8]) -> Reading
-    ensures { ReadOutcome report.now result }
+// Every field; the number of the check that refuses the report.
+pub fn read(report: &[u8]) -> Result<Reading, Refusal>
+    ensures { ReadOutcome report.now (reading_by result) }
 {
-    let found = check_report(report);
-    if found.number != algorithm::DONE {
-        return refused(found.number);
-    }
-    fields(report, found.live)
+    let checked = check_report(report)?;
+    Ok(fields(report, checked.live))
 }

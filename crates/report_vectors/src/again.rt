@@ -2,7 +2,7 @@
 ghost use Rattle.std.specs.Prelude.{◌≤◌, length};
 
 use crate::calls;
-use report::{Heading, Reading};
+use report::{Columns, Heading, Reading};
 use std::io;
 
 // The most sites of a report, and the most bytes of all its labels.
@@ -10,26 +10,20 @@ const SITES: usize = 64;
 
 const LABELS: usize = 3072;
 
-// The length of a label, which is at most 48; in a function of its own its size needs no proof.
-fn as_length(n: usize) -> u32 {
-    (n % 4294967296) as u32
-}
-
 // The numbers of every site, and how many sites there are.
-fn gather_numbers(report: &[u8], lengths: &mut [u32], live: &mut [u64], blocks: &mut [u32]) -> usize
-    requires room_for_lengths { 64 ≤ length lengths.old }
-    requires room_for_live { 64 ≤ length live.old }
-    requires room_for_blocks { 64 ≤ length blocks.old }
-    ensures in_lengths { result ≤ length lengths.new }
-    ensures in_live { result ≤ length live.new }
-    ensures in_blocks { result ≤ length blocks.new }
+fn gather_numbers(
+    report: &[u8],
+    lengths: &mut [u32; SITES],
+    live: &mut [u64; SITES],
+    blocks: &mut [u32; SITES],
+) -> usize
+    ensures { result ≤ 64 }
 {
     for place in 0..SITES {
-        let site = report::site(report, place as u64);
-        if site.number != algorithm::DONE {
+        let Ok(site) = report::site(report, place as u64) else {
             return place;
-        }
-        lengths[place] = as_length(site.length);
+        };
+        lengths[place] = (site.length % 4294967296) as u32;
         live[place] = site.live;
         blocks[place] = site.blocks;
     }
@@ -42,8 +36,7 @@ fn gather_label(report: &[u8], place: u64, space: &mut [u8], size: usize) -> usi
     requires { size ≤ length space.old }
     ensures { result ≤ length space.new }
 {
-    let mut number = 0;
-    let label = report::label(report, place, &mut number);
+    let label = report::label(report, place).unwrap_or(b"");
     let more = label.len();
     if space.len() - size < more {
         return size;
@@ -63,9 +56,10 @@ fn gather_labels(report: &[u8], space: &mut [u8]) -> usize
     size
 }
 
+// What a caller says to write again what was read.
 fn heading(read: Reading) -> Heading {
     Heading {
-        hash: read.hash as u32,
+        hash: u32::from(read.hash),
         tenant: read.tenant,
         machine: read.machine,
         report: read.report,
@@ -76,23 +70,26 @@ fn heading(read: Reading) -> Heading {
 }
 
 // Writes a report again from its fields and sites.
-fn write_again(rt: &impl Print, report: &[u8], key: &[u8], out: &mut [u8]) -> io::Result<()> {
+fn write_again(
+    rt: &impl Print,
+    read: Reading,
+    report: &[u8],
+    key: &[u8],
+    out: &mut [u8],
+) -> io::Result<()> {
     let mut labels = [0u8; LABELS];
     let mut lengths = [0u32; SITES];
     let mut live = [0u64; SITES];
     let mut blocks = [0u32; SITES];
     let size = gather_labels(report, &mut labels);
     let n = gather_numbers(report, &mut lengths, &mut live, &mut blocks);
-    calls::write(
-        rt,
-        heading(report::read(report)),
-        &labels[0..size],
-        &lengths[0..n],
-        &live[0..n],
-        &blocks[0..n],
-        key,
-        out,
-    )?;
+    let columns = Columns {
+        labels: &labels[..size],
+        lengths: &lengths[..n],
+        live: &live[..n],
+        blocks: &blocks[..n],
+    };
+    calls::write(rt, heading(read), &columns, key, out)?;
     Ok(())
 }
 
@@ -100,19 +97,19 @@ fn write_again(rt: &impl Print, report: &[u8], key: &[u8], out: &mut [u8]) -> io
 pub(crate) fn write_twice(
     rt: &impl Print,
     heading: Heading,
-    labels: &[u8],
-    lengths: &[u32],
-    live: &[u64],
-    blocks: &[u32],
+    columns: &Columns<'_>,
     key: &[u8],
     out: &mut [u8],
     second: &mut [u8],
 ) -> io::Result<()> {
-    let n = calls::write(rt, heading, labels, lengths, live, blocks, key, out)?;
+    let n = calls::write(rt, heading, columns, key, out)?;
     if n != 0 {
-        calls::check(rt, &out[0..n], key)?;
-        calls::read(rt, &out[0..n])?;
-        write_again(rt, &out[0..n], key, second)?;
+        let report = &out[..n];
+        calls::check(rt, report, key)?;
+        calls::read(rt, report)?;
+        if let Ok(read) = report::read(report) {
+            write_again(rt, read, report, key, second)?;
+        }
     }
     Ok(())
 }

@@ -2,37 +2,26 @@
 ghost use Rattle.std.specs.Prelude.{◌≤◌, length, IfOk};
 
 use crate::say;
-use report::Heading;
+use crate::say::Bytes;
+use algorithm::number;
+use report::{Columns, Heading};
 use std::io;
 
 pub(crate) fn read(rt: &impl Print, report: &[u8]) -> io::Result<()> {
-    say::text(rt, b"read: ")?;
+    print!(rt; "read: ")?;
     say::reading(rt, report::read(report))
-}
-
-fn label(rt: &impl Print, report: &[u8], place: u64) -> io::Result<()> {
-    let mut number = 0xa5u32;
-    let bytes = report::label(report, place, &mut number);
-    say::number(rt, number as u64)?;
-    say::text(rt, b" ")?;
-    say::bytes(rt, bytes)
 }
 
 // The site and the label at a place.
 pub(crate) fn site(rt: &impl Print, report: &[u8], place: u64) -> io::Result<()> {
-    say::text(rt, b"site ")?;
-    say::number(rt, place)?;
-    say::text(rt, b": ")?;
+    print!(rt; "site {place}: ")?;
     say::site(rt, report::site(report, place))?;
-    say::text(rt, b", label ")?;
-    label(rt, report, place)?;
-    say::text(rt, b"\n")
+    let label = report::label(report, place);
+    println!(rt; ", label {} {}", number(label), Bytes(label.unwrap_or(b"")))
 }
 
 pub(crate) fn check(rt: &impl Print, report: &[u8], key: &[u8]) -> io::Result<()> {
-    say::text(rt, b"check: ")?;
-    say::number(rt, report::check(report, key) as u64)?;
-    say::text(rt, b"\n")
+    println!(rt; "check: {}", number(report::check(report, key)))
 }
 
 pub(crate) fn fingerprint(
@@ -41,9 +30,9 @@ pub(crate) fn fingerprint(
     key: &[u8],
     out: &mut [u8],
 ) -> io::Result<()> {
-    let number = report::fingerprint(report, key, out);
-    say::text(rt, b"fingerprint: ")?;
-    say::answer(rt, number as u64, out)
+    let answered = report::fingerprint(report, key, out);
+    print!(rt; "fingerprint: ")?;
+    say::answer(rt, answered, out)
 }
 
 pub(crate) fn keys(
@@ -55,8 +44,8 @@ pub(crate) fn keys(
     out: &mut [u8],
 ) -> io::Result<()> {
     let answered = report::keys(hash_number, prk, tenant, machine, out);
-    say::text(rt, b"keys: ")?;
-    say::answer(rt, answered as u64, out)
+    print!(rt; "keys: ")?;
+    say::answer(rt, answered, out)
 }
 
 // Writing, and how many bytes of the output are a report: none where it is refused. A length that the output does not have would
@@ -64,18 +53,14 @@ pub(crate) fn keys(
 pub(crate) fn write(
     rt: &impl Print,
     heading: Heading,
-    labels: &[u8],
-    lengths: &[u32],
-    live: &[u64],
-    blocks: &[u32],
+    columns: &Columns<'_>,
     key: &[u8],
     out: &mut [u8],
 ) -> io::Result<usize>
     ensures { IfOk result (λ n. n ≤ length out.new) }
 {
-    let written = report::write(heading, labels, lengths, live, blocks, key, out);
-    say::text(rt, b"write: ")?;
-    say::written(rt, written, out)?;
-    let n = written.length;
+    let written = report::write(heading, columns, key, out);
+    let n = written.unwrap_or(0);
+    println!(rt; "write: {}, {n}, {}", number(written), Bytes(out))?;
     Ok(if n <= out.len() { n } else { 0 })
 }

@@ -1,97 +1,93 @@
-// The parts of a record, as they come of a reader. Where one is cut short or too long, `whole` becomes false, and what comes
-// back says nothing.
-ghost use Rattle.std.specs.Prelude.{◌≤◌, length};
+// The parts of a record, as they come of a reader.
+ghost use Rattle.std.specs.Prelude.{◌≤◌, IfOk};
 
 use report::Heading;
+use std::io;
 use std::io::Read;
 
-// Every byte of a part.
-fn fill(from: &mut impl Read, out: &mut [u8], whole: &mut bool) {
-    if from.read_exact(out).is_err() {
-        *whole = false;
+// Why a record is not run to its end: a part of it is cut short or too long, or it is of another kind; or nothing can be written.
+#[derive(Drop)]
+pub(crate) enum Stop {
+    NoRecord,
+    Failed(io::Error),
+}
+
+impl From<io::Error> for Stop {
+    fn from(error: io::Error) -> Stop {
+        Stop::Failed(error)
     }
+}
+
+// Every byte of a part.
+fn fill(from: &mut impl Read, part: &mut [u8]) -> Result<(), Stop> {
+    from.read_exact(part).map_err(|_| Stop::NoRecord)
 }
 
 // A number of one byte.
-pub(crate) fn one(from: &mut impl Read, whole: &mut bool) -> u8 {
-    let mut byte = [0u8; 1];
-    fill(from, &mut byte, whole);
-    byte[0]
-}
-
-fn as_number(byte: u8) -> u32 {
-    byte as u32
+pub(crate) fn one(from: &mut impl Read) -> Result<u8, Stop> {
+    let mut bytes = [0u8; 1];
+    fill(from, &mut bytes)?;
+    Ok(u8::from_be_bytes(bytes))
 }
 
 // A number of four bytes.
-pub(crate) fn four(from: &mut impl Read, whole: &mut bool) -> u32 {
+pub(crate) fn four(from: &mut impl Read) -> Result<u32, Stop> {
     let mut bytes = [0u8; 4];
-    fill(from, &mut bytes, whole);
-    (as_number(bytes[0]) << 24)
-        | (as_number(bytes[1]) << 16)
-        | (as_number(bytes[2]) << 8)
-        | as_number(bytes[3])
+    fill(from, &mut bytes)?;
+    Ok(u32::from_be_bytes(bytes))
 }
 
 // A number of eight bytes.
-pub(crate) fn eight(from: &mut impl Read, whole: &mut bool) -> u64 {
-    let high = four(from, whole);
-    let low = four(from, whole);
-    ((high as u64) << 32) | (low as u64)
+pub(crate) fn eight(from: &mut impl Read) -> Result<u64, Stop> {
+    let mut bytes = [0u8; 8];
+    fill(from, &mut bytes)?;
+    Ok(u64::from_be_bytes(bytes))
 }
 
 // A size that is at most so much.
-pub(crate) fn size(from: &mut impl Read, most: usize, whole: &mut bool) -> usize
-    ensures { result ≤ most }
+pub(crate) fn size(from: &mut impl Read, most: usize) -> Result<usize, Stop>
+    ensures { IfOk result (λ n. n ≤ most) }
 {
-    let n = four(from, whole) as usize;
+    let n = four(from)? as usize;
     if most < n {
-        *whole = false;
-        return 0;
+        return Err(Stop::NoRecord);
     }
-    n
+    Ok(n)
 }
 
-// A string of bytes after its size, into the start of a space, and that size.
-pub(crate) fn string(from: &mut impl Read, space: &mut [u8], whole: &mut bool) -> usize
-    ensures { result ≤ length space.new }
-{
-    let n = size(from, space.len(), whole);
-    fill(from, &mut space[0..n], whole);
-    n
+// A string of bytes after its size, at the start of a space.
+pub(crate) fn string<'a>(from: &mut impl Read, space: &'a mut [u8]) -> Result<&'a [u8], Stop> {
+    let n = size(from, space.len())?;
+    let part = &mut space[..n];
+    fill(from, part)?;
+    Ok(part)
 }
 
-// A list of numbers of four bytes after how many there are, into the start of a space, and how many.
-pub(crate) fn fours(from: &mut impl Read, space: &mut [u32], whole: &mut bool) -> usize
-    ensures { result ≤ length space.new }
+// A list of numbers after how many there are, at the start of a space; `number` reads one.
+pub(crate) fn list<'a, R: Read, T: Copy, F: Fn(&mut R) -> Result<T, Stop>>(
+    from: &mut R,
+    space: &'a mut [T],
+    number: F,
+) -> Result<&'a [T], Stop>
+    requires { F.IsAlwaysCallable number }
 {
-    let n = size(from, space.len(), whole);
-    for i in 0..n {
-        space[i] = four(from, whole);
+    let n = size(from, space.len())?;
+    let part = &mut space[..n];
+    for place in &mut *part {
+        *place = number(from)?;
     }
-    n
-}
-
-// The same with numbers of eight bytes.
-pub(crate) fn eights(from: &mut impl Read, space: &mut [u64], whole: &mut bool) -> usize
-    ensures { result ≤ length space.new }
-{
-    let n = size(from, space.len(), whole);
-    for i in 0..n {
-        space[i] = eight(from, whole);
-    }
-    n
+    Ok(part)
 }
 
 // The heading of a report that is to be written.
-pub(crate) fn heading(from: &mut impl Read, whole: &mut bool) -> Heading {
-    Heading {
-        hash: four(from, whole),
-        tenant: four(from, whole),
-        machine: eight(from, whole),
-        report: eight(from, whole),
-        sent: eight(from, whole),
-        attempt: one(from, whole),
-        memory: eight(from, whole),
-    }
+pub(crate) fn heading(from: &mut impl Read) -> Result<Heading, Stop> {
+    Ok(Heading {
+        hash: four(from)?,
+        tenant: four(from)?,
+        machine: eight(from)?,
+        report: eight(from)?,
+        sent: eight(from)?,
+        attempt: one(from)?,
+        memory: eight(from)?,
+    })
 }

@@ -1,48 +1,18 @@
 // Submitting a report to a ledger of one record.
 use crate::say;
-use ledger::{Answer, Record};
+use ledger::Record;
 use std::io;
 
-// What a submission answers, and the records after it.
-#[derive(Clone, Copy)]
-struct Submitted {
-    answer: Answer,
-    records: [Record; 1],
-}
-
-// The records come and go by value, so that this function alone lends them.
+// A submission with a line on it.
 fn submit(
-    mut records: [Record; 1],
-    report: &[u8],
-    tag_key: &[u8],
-    fingerprint_key: &[u8],
-) -> Submitted {
-    let answer = ledger::submit(&mut records, report, tag_key, fingerprint_key);
-    Submitted { answer, records }
-}
-
-// A submission with a line on it, and the records after it.
-fn submit_once(
     rt: &impl Print,
-    records: [Record; 1],
+    records: &mut [Record; 1],
     report: &[u8],
     tag_key: &[u8],
     fingerprint_key: &[u8],
-) -> io::Result<[Record; 1]> {
-    let submitted = submit(records, report, tag_key, fingerprint_key);
-    let answer = submitted.answer;
-    let after = submitted.records;
-    say::text(rt, b"submit: ")?;
-    say::submitted(rt, answer, after[0])?;
-    Ok(after)
-}
-
-fn free() -> Record {
-    Record {
-        fingerprint: [0; 32],
-        live: 0,
-        in_use: 0,
-    }
+) -> io::Result<()> {
+    let answer = ledger::submit(records, report, tag_key, fingerprint_key);
+    say::submitted(rt, answer, records[0])
 }
 
 // Submits a report to a ledger of one free record, and once more to the ledger after it.
@@ -52,8 +22,13 @@ pub(crate) fn submit_twice(
     tag_key: &[u8],
     fingerprint_key: &[u8],
 ) -> io::Result<()> {
-    let records = [free()];
-    let after = submit_once(rt, records, report, tag_key, fingerprint_key)?;
-    submit_once(rt, after, report, tag_key, fingerprint_key)?;
+    let mut records = [Record {
+        fingerprint: [0; 32],
+        live: 0,
+        in_use: 0,
+    }];
+    for _ in 0..2u8 {
+        submit(rt, &mut records, report, tag_key, fingerprint_key)?;
+    }
     Ok(())
 }

@@ -21,5 +21,5 @@ fn main(rt: HostRuntime) -> io::Result<()> {
             return Ok(());
         }
     }
-    say::text(&rt, b"too many records\n")
+    println!(rt; "too many records")
 }

@@ -1,6 +1,7 @@
-// The records of the input, each read and run. A function here answers whether the record came whole.
-use crate::{again, calls, input, ledgers, say};
-use report::Heading;
+// The records of the input, each read and run.
+use crate::input::Stop;
+use crate::{again, calls, input, ledgers};
+use report::Columns;
 use std::io;
 use std::io::Read;
 
@@ -14,169 +15,114 @@ const OUTPUT: usize = 256;
 // The most numbers of a list: some more than a report may have sites.
 const NUMBERS: usize = 80;
 
-// The sites of a report, at the places that follow it.
-fn sites(rt: &impl Print, from: &mut impl Read, report: &[u8]) -> io::Result<bool> {
-    let mut whole = true;
-    for _ in 0..input::one(from, &mut whole) {
-        let place = input::eight(from, &mut whole);
-        if whole {
-            calls::site(rt, report, place)?;
-        }
-    }
-    Ok(whole)
-}
-
-fn read(rt: &impl Print, from: &mut impl Read) -> io::Result<bool> {
-    let mut whole = true;
+// The report, and its sites at the places that follow it.
+fn read(rt: &impl Print, from: &mut impl Read) -> Result<(), Stop> {
     let mut space = [0u8; REPORT];
-    let n = input::string(from, &mut space, &mut whole);
-    if !whole {
-        return Ok(false);
+    let report = input::string(from, &mut space)?;
+    calls::read(rt, report)?;
+    for _ in 0..input::one(from)? {
+        let place = input::eight(from)?;
+        calls::site(rt, report, place)?;
     }
-    calls::read(rt, &space[0..n])?;
-    sites(rt, from, &space[0..n])
+    Ok(())
 }
 
-fn check(rt: &impl Print, from: &mut impl Read) -> io::Result<bool> {
-    let mut whole = true;
+fn check(rt: &impl Print, from: &mut impl Read) -> Result<(), Stop> {
     let mut space = [0u8; REPORT];
     let mut key_space = [0u8; KEY];
-    let n = input::string(from, &mut space, &mut whole);
-    let k = input::string(from, &mut key_space, &mut whole);
-    if whole {
-        calls::check(rt, &space[0..n], &key_space[0..k])?;
-    }
-    Ok(whole)
+    let report = input::string(from, &mut space)?;
+    let key = input::string(from, &mut key_space)?;
+    calls::check(rt, report, key)?;
+    Ok(())
 }
 
-fn fingerprint(rt: &impl Print, from: &mut impl Read) -> io::Result<bool> {
-    let mut whole = true;
+fn fingerprint(rt: &impl Print, from: &mut impl Read) -> Result<(), Stop> {
     let mut space = [0u8; REPORT];
     let mut key_space = [0u8; KEY];
     let mut out = [0xa5u8; OUTPUT];
-    let n = input::string(from, &mut space, &mut whole);
-    let k = input::string(from, &mut key_space, &mut whole);
-    let size = input::size(from, OUTPUT, &mut whole);
-    if whole {
-        calls::fingerprint(rt, &space[0..n], &key_space[0..k], &mut out[0..size])?;
-    }
-    Ok(whole)
+    let report = input::string(from, &mut space)?;
+    let key = input::string(from, &mut key_space)?;
+    let size = input::size(from, OUTPUT)?;
+    calls::fingerprint(rt, report, key, &mut out[..size])?;
+    Ok(())
 }
 
-fn keys(rt: &impl Print, from: &mut impl Read) -> io::Result<bool> {
-    let mut whole = true;
+fn keys(rt: &impl Print, from: &mut impl Read) -> Result<(), Stop> {
     let mut key_space = [0u8; KEY];
     let mut out = [0xa5u8; OUTPUT];
-    let number = input::four(from, &mut whole);
-    let k = input::string(from, &mut key_space, &mut whole);
-    let tenant = input::four(from, &mut whole);
-    let machine = input::eight(from, &mut whole);
-    let size = input::size(from, OUTPUT, &mut whole);
-    if whole {
-        calls::keys(
-            rt,
-            number,
-            &key_space[0..k],
-            tenant,
-            machine,
-            &mut out[0..size],
-        )?;
-    }
-    Ok(whole)
+    let hash_number = input::four(from)?;
+    let prk = input::string(from, &mut key_space)?;
+    let tenant = input::four(from)?;
+    let machine = input::eight(from)?;
+    let size = input::size(from, OUTPUT)?;
+    calls::keys(rt, hash_number, prk, tenant, machine, &mut out[..size])?;
+    Ok(())
 }
 
 // Writes a report from its heading and its sites, under the tag key and over an output of the size that follow them.
-fn write_from(
-    rt: &impl Print,
-    from: &mut impl Read,
-    heading: Heading,
-    labels: &[u8],
-    lengths: &[u32],
-    live: &[u64],
-    blocks: &[u32],
-) -> io::Result<bool> {
-    let mut whole = true;
-    let mut key_space = [0u8; KEY];
-    let mut out = [0xa5u8; REPORT];
-    let mut second = [0xa5u8; REPORT];
-    let k = input::string(from, &mut key_space, &mut whole);
-    let size = input::size(from, REPORT, &mut whole);
-    if whole {
-        again::write_twice(
-            rt,
-            heading,
-            labels,
-            lengths,
-            live,
-            blocks,
-            &key_space[0..k],
-            &mut out[0..size],
-            &mut second[0..size],
-        )?;
-    }
-    Ok(whole)
-}
-
-fn write(rt: &impl Print, from: &mut impl Read) -> io::Result<bool> {
-    let mut whole = true;
+fn write(rt: &impl Print, from: &mut impl Read) -> Result<(), Stop> {
     let mut labels = [0u8; REPORT];
     let mut lengths = [0u32; NUMBERS];
     let mut live = [0u64; NUMBERS];
     let mut blocks = [0u32; NUMBERS];
-    let heading = input::heading(from, &mut whole);
-    let n = input::string(from, &mut labels, &mut whole);
-    let lengths_given = input::fours(from, &mut lengths, &mut whole);
-    let live_given = input::eights(from, &mut live, &mut whole);
-    let blocks_given = input::fours(from, &mut blocks, &mut whole);
-    if !whole {
-        return Ok(false);
-    }
-    write_from(
+    let mut key_space = [0u8; KEY];
+    let mut out = [0xa5u8; REPORT];
+    let mut second = [0xa5u8; REPORT];
+    let heading = input::heading(from)?;
+    let columns = Columns {
+        labels: input::string(from, &mut labels)?,
+        lengths: input::list(from, &mut lengths, |from| input::four(from))?,
+        live: input::list(from, &mut live, |from| input::eight(from))?,
+        blocks: input::list(from, &mut blocks, |from| input::four(from))?,
+    };
+    let key = input::string(from, &mut key_space)?;
+    let size = input::size(from, REPORT)?;
+    again::write_twice(
         rt,
-        from,
         heading,
-        &labels[0..n],
-        &lengths[0..lengths_given],
-        &live[0..live_given],
-        &blocks[0..blocks_given],
-    )
+        &columns,
+        key,
+        &mut out[..size],
+        &mut second[..size],
+    )?;
+    Ok(())
 }
 
-fn submit(rt: &impl Print, from: &mut impl Read) -> io::Result<bool> {
-    let mut whole = true;
+fn submit(rt: &impl Print, from: &mut impl Read) -> Result<(), Stop> {
     let mut space = [0u8; REPORT];
     let mut tag_space = [0u8; KEY];
     let mut fingerprint_space = [0u8; KEY];
-    let n = input::string(from, &mut space, &mut whole);
-    let t = input::string(from, &mut tag_space, &mut whole);
-    let f = input::string(from, &mut fingerprint_space, &mut whole);
-    if whole {
-        ledgers::submit_twice(rt, &space[0..n], &tag_space[0..t], &fingerprint_space[0..f])?;
+    let report = input::string(from, &mut space)?;
+    let tag_key = input::string(from, &mut tag_space)?;
+    let fingerprint_key = input::string(from, &mut fingerprint_space)?;
+    ledgers::submit_twice(rt, report, tag_key, fingerprint_key)?;
+    Ok(())
+}
+
+// A record of a kind.
+fn run(rt: &impl Print, from: &mut impl Read, kind: u8) -> Result<(), Stop> {
+    match kind {
+        1 => read(rt, from),
+        2 => check(rt, from),
+        3 => fingerprint(rt, from),
+        4 => keys(rt, from),
+        5 => write(rt, from),
+        6 => submit(rt, from),
+        _ => Err(Stop::NoRecord),
     }
-    Ok(whole)
 }
 
 // The next record, and whether there may be another.
 pub(crate) fn next(rt: &impl Print, from: &mut impl Read) -> io::Result<bool> {
-    let mut begun = true;
-    let kind = input::one(from, &mut begun);
-    if !begun {
+    let Ok(kind) = input::one(from) else {
         return Ok(false);
-    }
-    let whole = match kind {
-        1 => read(rt, from)?,
-        2 => check(rt, from)?,
-        3 => fingerprint(rt, from)?,
-        4 => keys(rt, from)?,
-        5 => write(rt, from)?,
-        6 => submit(rt, from)?,
-        _ => false,
     };
-    if !whole {
-        say::text(
-            rt,
-            b"no record: of another kind, cut short, or with a part too long\n",
-        )?;
+    match run(rt, from, kind) {
+        Ok(()) => Ok(true),
+        Err(Stop::NoRecord) => {
+            println!(rt; "no record: of another kind, cut short, or with a part too long")?;
+            Ok(false)
+        }
+        Err(Stop::Failed(error)) => Err(error),
     }
-    Ok(whole)
 }

@@ -11,11 +11,10 @@ use borrow.Author.Tests.{lt-ltb, le-ltb}
 use Rattle.report.specs.Layout.{largest_report}
 use Rattle.stream.specs.Stream.{total_of, in_range, waits}
 use Rattle.stream.proofs.Proved.Stream.Laws.{in_range_lem, waits_short, waits_below, waits_out, waits_done, beginning_is, total_front}
-use Rattle.stream.specs.Calls.{more_fed, closing_fed, whole_fed, filled, on_hand, taken}
+use Rattle.stream.specs.Calls.{Fed, more_fed, closing_fed, whole_fed, filled, on_hand, taken}
 use Rattle.stream.proofs.Proved.Inside.Laws.{taken_more, taken_closing, taken_whole, used_fits, take_filled, filled_length, filled_again, hand_length, hand_drop, hand_total, held_total}
 use Rattle.stream.specs.Inside.{Beginning, Goal, CollectOutcome, Waiting, later_fed}
 use Rattle.stream.specs.Inside.Beginning.{waiting, closing, whole}
-use Rattle.stream.specs.declared.answers.Fed.{Fed}
 
 -- the piece ends before the goal, or reaches it
 module _ (c g : ℕ) (b p after : List ℕ) (col : CollectOutcome c g b p after) where

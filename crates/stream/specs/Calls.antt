@@ -1,15 +1,17 @@
 -- Believed: what each public call answers, for all arguments: its checks in their order, and the bytes taken in where none fails. An
 -- outcome predicate is what the call's contract says; Calls/Unique.antt shows that no second outcome meets it. Assumes nothing.
 pub mod Unique
-use Rattle.std.specs.Prelude.{◌≡◌, Bool, true, false, not, ◌||◌, List, [], ◌∷◌, ◌++◌, ℕ, ◌-◌, ◌≤◌, leb, eqb, length, take, drop}
+use Rattle.std.specs.Prelude.{◌≡◌, Bool, true, false, not, ◌||◌, List, [], ◌∷◌, ◌++◌, ℕ, ◌-◌, ◌≤◌, leb, eqb, length, take, drop, Result, Ok, Err}
 use Rattle.algorithm.specs.Refusals.{done, wrong_size, state_not_sound, wrong_report_length}
+use Rattle.algorithm.specs.Answers as numbers
+use Rattle.algorithm.specs.declared.refusals.Refusal.{Refusal}
 use Rattle.algorithm.specs.Checks.{Check, check, first_failing, decided, Pass}
 use Rattle.report.specs.Layout.{largest_report}
-use Rattle.stream.specs.Stream.{total_of, in_range, waits, by_beginning, read_answer}
+use Rattle.stream.specs.Stream.{Answer, More, Whole, Refused, total_of, in_range, waits, by_beginning, read_answer}
 use Rattle.stream.specs.declared.answers.State.{State}
-use Rattle.stream.specs.declared.answers.Answer.{Answer}
-use Rattle.stream.specs.declared.answers.Answer.TheVariants.{More, Whole, Refused}
-use Rattle.stream.specs.declared.answers.Fed.{Fed}
+use Rattle.stream.specs.declared.answers.Answer as answers
+use Rattle.stream.specs.declared.answers.Answer.TheVariants as answer
+use Rattle.stream.specs.declared.answers.Fed as feds
 
 -- the state before the first feed, that of a stream that a total closes, and whether a stream is closed
 abbrev pub fresh_state : State
@@ -30,6 +32,22 @@ abbrev pub number_of : Answer → ℕ
 number_of More = done
 number_of Whole = done
 number_of (Refused n) = n
+
+-- the answer of the code as such an answer
+abbrev pub answer_by : Result answers.Answer Refusal → Answer
+answer_by (Ok answer.More) = More
+answer_by (Ok answer.Whole) = Whole
+answer_by (Err e) = Refused (numbers.number_of e)
+
+-- what a feed answers
+pub record Fed : Type 0 where
+  pub answer : Answer
+  pub used : ℕ
+  pub length : ℕ
+  pub state : State
+
+abbrev pub fed_by : feds.Fed → Fed
+fed_by f = record { answer = answer_by f.answer; used = f.used; length = f.length; state = f.state }
 
 -- and the values beside it: bytes used of the piece, the length of a whole report, the state. A check that fails uses nothing and hands
 -- the state back

@@ -2,8 +2,7 @@
 use Rattle.std.specs.Prelude.{◌≡◌, true, false, cond, List, ℕ, ◌+◌, ◌≤◌, ◌<◌, ltb, length, take}
 use Rattle.report.specs.Layout.{largest_report}
 use Rattle.stream.specs.Stream.{total_of, in_range, waits}
-use Rattle.stream.specs.Calls.{filled, on_hand, taken}
-use Rattle.stream.specs.declared.answers.Fed.{Fed}
+use Rattle.stream.specs.Calls.{Fed, filled, on_hand, taken}
 
 -- what bytes begin with
 pub data Beginning (s : List ℕ) : Type 0 where

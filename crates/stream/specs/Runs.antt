@@ -1,12 +1,9 @@
 -- Believed: a stream cut into pieces and fed one after the other, with the rest of a piece always fed again. Assumes nothing.
 use Rattle.std.specs.Prelude.{Bool, true, false, cond, ℕ, zero, suc, ◌+◌, length, take, drop}
 use mathlib.Core.List.{List, [], ◌∷◌, flatten}
-use Rattle.stream.specs.Stream.{Event}
-use Rattle.stream.specs.Calls.{fresh_state, is_closed, feed_answer}
+use Rattle.stream.specs.Stream.{Answer, More, Whole, Refused, Event}
+use Rattle.stream.specs.Calls.{Fed, fresh_state, is_closed, feed_answer}
 use Rattle.stream.specs.declared.answers.State.{State}
-use Rattle.stream.specs.declared.answers.Answer.{Answer}
-use Rattle.stream.specs.declared.answers.Answer.TheVariants.{More, Whole, Refused}
-use Rattle.stream.specs.declared.answers.Fed.{Fed}
 
 abbrev pub is_more : Answer → Bool
 is_more More = true

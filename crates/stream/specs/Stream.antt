@@ -5,8 +5,6 @@ use Rattle.octets.specs.Number.{number_at}
 use Rattle.algorithm.specs.Refusals.{done, wrong_report_length}
 use Rattle.report.specs.Layout.{smallest_report, largest_report}
 use Rattle.report.specs.Reading.{read_of}
-use Rattle.stream.specs.declared.answers.Answer.{Answer}
-use Rattle.stream.specs.declared.answers.Answer.TheVariants.{Whole, Refused}
 
 -- the total: the first four bytes' number plus 4
 unfoldable pub total_of : List ℕ → ℕ
@@ -23,6 +21,12 @@ waits s = ltb (length s) 4 || (in_range (total_of s) && ltb (length s) (total_of
 -- by what bytes begin with: a report that waits for more, a total out of range, which closes the stream, or a whole report
 abbrev pub by_beginning {ℓ} : {A : Type ℓ} → List ℕ → A → A → A → A
 by_beginning s waiting closing whole = cond (waits s) waiting (cond (in_range (total_of s)) whole closing)
+
+-- more bytes are wanted; a whole report that the plain reader lets pass; or refused with its number, as a whole report may be too
+pub data Answer : Type 0 where
+  More : Answer
+  Whole : Answer
+  Refused : ℕ → Answer
 
 -- the answer to a whole report, by the plain reader's number
 abbrev pub answer_to : ℕ → Answer

@@ -1,9 +1,10 @@
 // One feed: the checks in their order, then the bytes.
-ghost use Rattle.stream.specs.Calls.{FeedOutcome};
+ghost use Rattle.stream.specs.Calls.{fed_by, FeedOutcome};
 
 use crate::answers::{Fed, State, refused};
 use crate::taking::take_in;
 use crate::totals::waits;
+use algorithm::Refusal;
 
 // The most bytes that wait in the buffer: one fewer than the largest report has.
 const MOST_COLLECTED: usize = 3980;
@@ -13,21 +14,21 @@ const MOST_COLLECTED: usize = 3980;
 // use and write nothing. Then 11 closes the stream where the first four bytes name a total out of range, and a whole report gets the
 // plain reader's number; both leave the bytes used in the buffer. What was not used is to be fed again.
 pub fn feed(state: State, buffer: &mut [u8], piece: &[u8]) -> Fed
-    ensures { FeedOutcome state buffer.old piece.now result buffer.new }
+    ensures { FeedOutcome state buffer.old piece.now (fed_by result) buffer.new }
 {
     let collected = state.collected;
     if MOST_COLLECTED < collected {
-        return refused(state, algorithm::STATE_NOT_SOUND);
+        return refused(state, Refusal::StateNotSound);
     }
     if buffer.len() != report::LARGEST_REPORT {
-        return refused(state, algorithm::WRONG_SIZE);
+        return refused(state, Refusal::WrongSize);
     }
     // The third check is of open streams alone, so that the fourth may be made before it.
     if state.closed != 0 {
-        return refused(state, algorithm::WRONG_REPORT_LENGTH);
+        return refused(state, Refusal::WrongReportLength);
     }
     if !waits(&buffer[..collected]) {
-        return refused(state, algorithm::STATE_NOT_SOUND);
+        return refused(state, Refusal::StateNotSound);
     }
     take_in(collected, buffer, piece)
 }

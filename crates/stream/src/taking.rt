@@ -1,9 +1,9 @@
 // Bytes from a piece into the buffer of an open stream: up to the fourth, and from there up to the total.
 ghost use Rattle.std.specs.Prelude.{◌≡◌, ◌+◌, ◌<◌, ◌≤◌};
-ghost use Rattle.stream.specs.Calls.{whole_fed};
+ghost use Rattle.stream.specs.Calls.{fed_by, whole_fed};
 ghost use Rattle.stream.specs.Inside.{Goal, CollectOutcome, Waiting, TakeOutcome, later_fed};
 
-use crate::answers::{Fed, State, answer_to, closing, more};
+use crate::answers::{Answer, Fed, State, closing, more};
 use crate::totals::{COUNT, in_range, total_of};
 
 // Writes bytes of the piece after the collected ones, until `goal` are collected or the piece ends.
@@ -16,12 +16,10 @@ fn collect(collected: usize, goal: usize, buffer: &mut [u8], piece: &[u8])
 
 // The answer to a whole report: the plain reader's.
 fn whole(report: &[u8], used: usize) -> Fed
-    ensures { result ≡ whole_fed report.now used }
+    ensures { fed_by result ≡ whole_fed report.now used }
 {
-    let reading = report::read(report);
-    let number = reading.number;
     Fed {
-        answer: answer_to(number),
+        answer: report::read(report).map(|_| Answer::Whole),
         used,
         length: report.len(),
         state: State {
@@ -34,18 +32,19 @@ fn whole(report: &[u8], used: usize) -> Fed
 // The same answer with more bytes used before it.
 fn later(fed: Fed, before: usize) -> Fed
     requires { before + fed.used < 18446744073709551616 }
-    ensures { result ≡ later_fed fed before }
+    ensures { fed_by result ≡ later_fed (fed_by fed) before }
 {
-    let mut next = fed;
-    next.used = before + fed.used;
-    next
+    Fed {
+        used: before + fed.used,
+        ..fed
+    }
 }
 
 // Four bytes at least are collected: up to their total.
 fn take_body(collected: usize, buffer: &mut [u8], piece: &[u8]) -> Fed
     requires waiting { Waiting collected buffer.old }
     requires head_collected { 4 ≤ collected }
-    ensures { TakeOutcome collected buffer.old piece.now result buffer.new }
+    ensures { TakeOutcome collected buffer.old piece.now (fed_by result) buffer.new }
 {
     let total = total_of(&buffer[..collected]);
     let to_end = total - collected;
@@ -60,7 +59,7 @@ fn take_body(collected: usize, buffer: &mut [u8], piece: &[u8]) -> Fed
 fn take_head(collected: usize, buffer: &mut [u8], piece: &[u8]) -> Fed
     requires waiting { Waiting collected buffer.old }
     requires head_waits { collected < 4 }
-    ensures { TakeOutcome collected buffer.old piece.now result buffer.new }
+    ensures { TakeOutcome collected buffer.old piece.now (fed_by result) buffer.new }
 {
     let to_fourth = COUNT - collected;
     collect(collected, COUNT, buffer, piece);
@@ -78,7 +77,7 @@ fn take_head(collected: usize, buffer: &mut [u8], piece: &[u8]) -> Fed
 // Bytes from the piece into the buffer, up to the end of the report on its way.
 pub(crate) fn take_in(collected: usize, buffer: &mut [u8], piece: &[u8]) -> Fed
     requires { Waiting collected buffer.old }
-    ensures { TakeOutcome collected buffer.old piece.now result buffer.new }
+    ensures { TakeOutcome collected buffer.old piece.now (fed_by result) buffer.new }
 {
     if collected < COUNT {
         return take_head(collected, buffer, piece);

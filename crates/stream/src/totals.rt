@@ -5,23 +5,14 @@ ghost use Rattle.stream.specs.Stream.{total_of, in_range, waits};
 // How many bytes name the total.
 pub(crate) const COUNT: usize = 4;
 
-// A byte as a number. It stands in a function of its own, so that no proof of a caller has to show that it fits.
-fn as_number(b: u8) -> usize
-    ensures { result ≡ b }
-{
-    b as usize
-}
-
 // The first four bytes' number, plus 4. It has at most 33 bits, so that it does not wrap.
 pub(crate) fn total_of(bytes: &[u8]) -> usize
     requires { 4 ≤ length bytes.now }
     ensures { result ≡ total_of bytes.now }
 {
     let mut n: usize = 0;
-    let mut i = 0;
-    while i < COUNT {
-        n = n * 256 + as_number(bytes[i]);
-        i += 1;
+    for byte in &bytes[..COUNT] {
+        n = n * 256 + usize::from(*byte);
     }
     n + COUNT
 }

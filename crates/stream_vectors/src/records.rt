@@ -1,5 +1,6 @@
-// The records of the input, each read and run. A function here answers whether the record came whole.
-use crate::{input, say, streams};
+// The records of the input, each read and run.
+use crate::input::Stop;
+use crate::{input, streams};
 use std::io;
 use std::io::Read;
 use stream::State;
@@ -13,60 +14,47 @@ fn piece(
     from: &mut impl Read,
     state: State,
     buffer: &mut [u8],
-    whole: &mut bool,
-) -> io::Result<State> {
+) -> Result<State, Stop> {
     let mut space = [0u8; REPORT];
-    let n = input::string(from, &mut space, whole);
-    if !*whole {
-        return Ok(state);
-    }
-    streams::feed(rt, state, buffer, &space[0..n])
+    let piece = input::string(from, &mut space)?;
+    Ok(streams::feed(rt, state, buffer, piece)?)
 }
 
-// What the buffer of a stream begins with, and then the pieces, fed one after the other.
-fn pieces(
-    rt: &impl Print,
-    from: &mut impl Read,
-    state: State,
-    buffer: &mut [u8],
-) -> io::Result<bool> {
-    let mut whole = true;
-    let mut now = state;
-    input::string(from, buffer, &mut whole);
-    for _ in 0..input::one(from, &mut whole) {
-        now = piece(rt, from, now, buffer, &mut whole)?;
-    }
-    Ok(whole)
-}
-
-fn feed(rt: &impl Print, from: &mut impl Read) -> io::Result<bool> {
-    let mut whole = true;
+// A stream: its state, the size of its buffer and what that begins with, and then the pieces, fed one after the other.
+fn feed(rt: &impl Print, from: &mut impl Read) -> Result<(), Stop> {
     let mut space = [0xa5u8; REPORT];
-    let collected = input::eight(from, &mut whole) as usize;
-    let closed = input::four(from, &mut whole);
-    let size = input::size(from, REPORT, &mut whole);
-    if !whole {
-        return Ok(false);
+    let mut state = State {
+        collected: input::eight(from)? as usize,
+        closed: input::four(from)?,
+    };
+    let size = input::size(from, REPORT)?;
+    let buffer = &mut space[..size];
+    input::string(from, buffer)?;
+    for _ in 0..input::one(from)? {
+        state = piece(rt, from, state, buffer)?;
     }
-    pieces(rt, from, State { collected, closed }, &mut space[0..size])
+    Ok(())
+}
+
+// A record of a kind.
+fn run(rt: &impl Print, from: &mut impl Read, kind: u8) -> Result<(), Stop> {
+    match kind {
+        7 => feed(rt, from),
+        _ => Err(Stop::NoRecord),
+    }
 }
 
 // The next record, and whether there may be another.
 pub(crate) fn next(rt: &impl Print, from: &mut impl Read) -> io::Result<bool> {
-    let mut begun = true;
-    let kind = input::one(from, &mut begun);
-    if !begun {
+    let Ok(kind) = input::one(from) else {
         return Ok(false);
-    }
-    let whole = match kind {
-        7 => feed(rt, from)?,
-        _ => false,
     };
-    if !whole {
-        say::text(
-            rt,
-            b"no record: of another kind, cut short, or with a part too long\n",
-        )?;
+    match run(rt, from, kind) {
+        Ok(()) => Ok(true),
+        Err(Stop::NoRecord) => {
+            println!(rt; "no record: of another kind, cut short, or with a part too long")?;
+            Ok(false)
+        }
+        Err(Stop::Failed(error)) => Err(error),
     }
-    Ok(whole)
 }

@@ -15,19 +15,15 @@ pub(crate) fn feed(
     piece: &[u8],
 ) -> io::Result<State> {
     let mut now = state;
-    let mut at = 0;
+    let mut rest = piece;
     for _ in 0..MOST_FEEDS {
-        let fed = stream::feed(now, buffer, &piece[at..]);
-        say::fed(rt, fed, &*buffer)?;
+        let fed = stream::feed(now, buffer, rest);
+        say::fed(rt, fed, buffer)?;
         now = fed.state;
-        let used = fed.used;
-        if used == 0 {
-            return Ok(now);
+        if fed.used == 0 || rest.len() <= fed.used {
+            break;
         }
-        if piece.len() - at <= used {
-            return Ok(now);
-        }
-        at += used;
+        rest = &rest[fed.used..];
     }
     Ok(now)
 }

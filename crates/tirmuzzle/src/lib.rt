@@ -9,8 +9,9 @@ ghost use Rattle.report.specs.Writing.{columns};
 ghost use Rattle.ledger.specs.Calls.{SubmitShownOutcome, TotalOutcome};
 ghost use Rattle.stream.specs.Calls.{FeedShownOutcome};
 
+use algorithm::number;
 use ledger::Record;
-use report::Heading;
+use report::{Columns, Heading};
 use stream::State;
 
 #[unsafe(no_mangle)]
@@ -23,7 +24,7 @@ pub extern "C" fn tirmuzzle_tag(
 ) -> u32
     ensures { TagMessageOutcome hash key.now message.now tag_length out.old result out.new }
 {
-    hmac::tag_message(hash, key, message, tag_length, out)
+    number(hmac::tag_message(hash, key, message, tag_length, out))
 }
 
 #[unsafe(no_mangle)]
@@ -36,21 +37,21 @@ pub extern "C" fn tirmuzzle_verify(
 ) -> u32
     ensures { VerifyMessageOutcome hash key.now message.now tag_length tag.now result }
 {
-    hmac::verify_message(hash, key, message, tag_length, tag)
+    number(hmac::verify_message(hash, key, message, tag_length, tag))
 }
 
 #[unsafe(no_mangle)]
 pub extern "C" fn tirmuzzle_extract(hash: u32, salt: &[u8], ikm: &[u8], out: &mut [u8]) -> u32
     ensures { ExtractOutcome hash salt.now ikm.now out.old result out.new }
 {
-    hkdf::extract(hash, salt, ikm, out)
+    number(hkdf::extract(hash, salt, ikm, out))
 }
 
 #[unsafe(no_mangle)]
 pub extern "C" fn tirmuzzle_expand(hash: u32, prk: &[u8], info: &[u8], out: &mut [u8]) -> u32
     ensures { ExpandOutcome hash prk.now info.now out.old result out.new }
 {
-    hkdf::expand(hash, prk, info, out)
+    number(hkdf::expand(hash, prk, info, out))
 }
 
 #[unsafe(no_mangle)]
@@ -61,7 +62,7 @@ pub extern "C" fn tirmuzzle_report_fingerprint(
 ) -> u32
     ensures { FingerprintOutcome report.now fingerprint_key.now out.old result out.new }
 {
-    report::fingerprint(report, fingerprint_key, out)
+    number(report::fingerprint(report, fingerprint_key, out))
 }
 
 #[unsafe(no_mangle)]
@@ -92,24 +93,22 @@ pub extern "C" fn tirmuzzle_report_write(
         attempt,
         memory,
     };
-    let written = report::write(
-        heading,
+    let columns = Columns {
         labels,
-        label_lengths,
-        live_bytes,
-        live_blocks,
-        tag_key,
-        out,
-    );
-    *length = written.length as u64;
-    written.number
+        lengths: label_lengths,
+        live: live_bytes,
+        blocks: live_blocks,
+    };
+    let written = report::write(heading, &columns, tag_key, out);
+    *length = written.unwrap_or(0) as u64;
+    number(written)
 }
 
 #[unsafe(no_mangle)]
 pub extern "C" fn tirmuzzle_digest(hash: u32, message: &[u8], out: &mut [u8]) -> u32
     ensures { DigestOutcome hash message.now out.old result out.new }
 {
-    hash::digest(hash, message, out)
+    number(hash::digest(hash, message, out))
 }
 
 #[unsafe(no_mangle)]
@@ -122,28 +121,28 @@ pub extern "C" fn tirmuzzle_report_keys(
 ) -> u32
     ensures { KeysOutcome hash prk.now tenant machine out.old result out.new }
 {
-    report::keys(hash, prk, tenant, machine, out)
+    number(report::keys(hash, prk, tenant, machine, out))
 }
 
 #[unsafe(no_mangle)]
 pub extern "C" fn tirmuzzle_report_check(report: &[u8], tag_key: &[u8]) -> u32
     ensures { CheckOutcome report.now tag_key.now result }
 {
-    report::check(report, tag_key)
+    number(report::check(report, tag_key))
 }
 
 #[unsafe(no_mangle)]
 pub extern "C" fn tirmuzzle_report_read(report: &[u8], fields: &mut [u64]) -> u32
     ensures { ReadIntoOutcome report.now fields.old result fields.new }
 {
-    report::read_into(report, fields)
+    number(report::read_into(report, fields))
 }
 
 #[unsafe(no_mangle)]
 pub extern "C" fn tirmuzzle_report_site(report: &[u8], place: u64, site: &mut [u64]) -> u32
     ensures { SiteIntoOutcome report.now place site.old result site.new }
 {
-    report::site_into(report, place, site)
+    number(report::site_into(report, place, site))
 }
 
 #[unsafe(no_mangle)]
@@ -166,8 +165,8 @@ pub extern "C" fn tirmuzzle_ledger_total(records: &[Record], total: &mut u64) ->
     ensures { TotalOutcome records.now (record { number = result; total = total.new }) }
 {
     let summed = ledger::total(records);
-    *total = summed.total;
-    summed.number
+    *total = summed.unwrap_or(0);
+    number(summed)
 }
 
 #[unsafe(no_mangle)]
@@ -186,11 +185,9 @@ pub extern "C" fn tirmuzzle_stream_feed(
         closed: *closed,
     };
     let fed = stream::feed(state, buffer, piece);
-    let next = fed.state;
-    *collected = next.collected as u64;
-    *closed = next.closed;
+    *collected = fed.state.collected as u64;
+    *closed = fed.state.closed;
     *used = fed.used as u64;
     *length = fed.length as u64;
-    let answer = fed.answer;
-    stream::answer_number(answer)
+    stream::answer_number(fed.answer)
 }

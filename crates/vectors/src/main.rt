@@ -7,6 +7,7 @@ mod hashing;
 mod made;
 mod say;
 mod tagging;
+mod work;
 
 use std::io;
 

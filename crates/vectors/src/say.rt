@@ -1,108 +1,56 @@
-// What the program writes: words, numbers, bytes, states and what came back of a call.
-use crate::made;
-use algorithm::Hash;
-use hash::State;
-use hmac::Keyed;
-use std::io;
+// What the program writes: bytes, words, the names of hashes, and what a call answers into an output.
+use algorithm::{Hash, Refusal};
+use std::{fmt, io};
 
-pub(crate) fn text(rt: &impl Print, words: &[u8]) -> io::Result<()> {
-    rt.write_all(words)
-}
+// Bytes in hexadecimal.
+#[derive(Clone, Copy)]
+pub(crate) struct Hex<'a>(pub(crate) &'a [u8]);
 
-pub(crate) fn number(rt: &impl Print, n: u64) -> io::Result<()> {
-    print!(rt; "{n}")
-}
-
-pub(crate) fn hex(rt: &impl Print, bytes: &[u8]) -> io::Result<()> {
-    for byte in bytes {
-        print!(rt; "{byte:02x}")?;
-    }
-    Ok(())
-}
-
-fn words(rt: &impl Print, words: [u64; 8]) -> io::Result<()> {
-    for word in words {
-        print!(rt; " {word:016x}")?;
-    }
-    Ok(())
-}
-
-pub(crate) fn hash(rt: &impl Print, hash: Hash) -> io::Result<()> {
-    match hash {
-        Hash::Sha256 => text(rt, b"SHA-256"),
-        Hash::Sha512 => text(rt, b"SHA-512"),
+impl<'a> fmt::Display for Hex<'a> {
+    fn fmt<W: fmt::Write>(&self, f: &mut fmt::Formatter<W>) -> fmt::Result {
+        for byte in self.0 {
+            write!(f, "{byte:02x}")?;
+        }
+        Ok(())
     }
 }
 
-// HMAC over a hash.
-pub(crate) fn hmac(rt: &impl Print, over: Hash) -> io::Result<()> {
-    text(rt, b"HMAC-")?;
-    hash(rt, over)
-}
+// Words in hexadecimal, each after a space.
+#[derive(Clone, Copy)]
+pub(crate) struct Words(pub(crate) [u64; 8]);
 
-// A whole state but for the end of its line.
-fn fields(rt: &impl Print, state: State) -> io::Result<()> {
-    let h = state.hash;
-    let ws = state.words;
-    let w = state.waiting;
-    hash(rt, h)?;
-    text(rt, b" state, words")?;
-    words(rt, ws)?;
-    text(rt, b", count ")?;
-    number(rt, state.count)?;
-    text(rt, b", waiting ")?;
-    hex(rt, &w)
-}
-
-// A whole state.
-pub(crate) fn state(rt: &impl Print, state: State) -> io::Result<()> {
-    fields(rt, state)?;
-    text(rt, b"\n")
-}
-
-// A whole keyed state.
-pub(crate) fn keyed(rt: &impl Print, keyed: Keyed) -> io::Result<()> {
-    let outer = keyed.outer;
-    text(rt, b"HMAC-")?;
-    fields(rt, made::inner(keyed))?;
-    text(rt, b", outer words")?;
-    words(rt, outer)?;
-    text(rt, b", tag length ")?;
-    number(rt, keyed.tag_length as u64)?;
-    text(rt, b"\n")
-}
-
-pub(crate) fn soundness(rt: &impl Print, sound: bool) -> io::Result<()> {
-    if sound {
-        text(rt, b"  sound\n")
-    } else {
-        text(rt, b"  not sound\n")
+impl fmt::Display for Words {
+    fn fmt<W: fmt::Write>(&self, f: &mut fmt::Formatter<W>) -> fmt::Result {
+        for word in self.0 {
+            write!(f, " {word:016x}")?;
+        }
+        Ok(())
     }
 }
 
-// The number and the output of a call.
-pub(crate) fn answer(rt: &impl Print, answered: u32, out: &[u8]) -> io::Result<()> {
-    number(rt, answered as u64)?;
-    text(rt, b", ")?;
-    hex(rt, out)?;
-    text(rt, b"\n")
-}
+// The name of a hash.
+#[derive(Clone, Copy)]
+pub(crate) struct Name(pub(crate) Hash);
 
-// The number that a piece got, and whether the state came back as it was.
-pub(crate) fn back(rt: &impl Print, answered: u32, same: bool) -> io::Result<()> {
-    number(rt, answered as u64)?;
-    if same {
-        text(rt, b", the same state")
-    } else {
-        text(rt, b", another state")
+impl fmt::Display for Name {
+    fn fmt<W: fmt::Write>(&self, f: &mut fmt::Formatter<W>) -> fmt::Result {
+        f.write_str(match self.0 {
+            Hash::Sha256 => "SHA-256",
+            Hash::Sha512 => "SHA-512",
+        })
     }
 }
 
-// A line on a piece of some length, and what came back of it.
-pub(crate) fn update(rt: &impl Print, length: usize, answered: u32, same: bool) -> io::Result<()> {
-    text(rt, b"  update, length ")?;
-    number(rt, length as u64)?;
-    text(rt, b": ")?;
-    back(rt, answered, same)?;
-    text(rt, b"\n")
+// The number of a call and its output, of so many bytes and at most 66, which holds a5 everywhere before.
+pub(crate) fn output<F: FnOnce(&mut [u8]) -> Result<(), Refusal>>(
+    rt: &impl Print,
+    size: usize,
+    call: F,
+) -> io::Result<()>
+    requires { F.IsAlwaysCallable call }
+{
+    let mut space = [0xa5; 66];
+    let out = &mut space[..size.min(66)];
+    let answered = call(out);
+    println!(rt; "{}, {}", algorithm::number(answered), Hex(out))
 }

@@ -1,25 +1,26 @@
 // HMAC on RFC 4231's cases and at its edges.
-mod calls;
+mod asked;
 mod comparison;
 mod edges;
-mod inputs;
+mod keyed;
 mod published;
 mod sizes;
 
+use crate::made::HASHES;
 use std::io;
 
 pub(crate) fn run(rt: &impl Print) -> io::Result<()> {
     edges::starts(rt)?;
-    for number in 1..3 {
-        published::cases(rt, number)?;
-        edges::lengths(rt, number)?;
-        edges::keys(rt, number)?;
-        edges::states(rt, number)?;
-        edges::state_lengths(rt, number)?;
-        edges::limit(rt, number)?;
-        edges::large_counts(rt, number)?;
-        sizes::rows(rt, number)?;
-        comparison::rows(rt, number)?;
+    for of in HASHES {
+        published::cases(rt, of)?;
+        edges::lengths(rt, of)?;
+        edges::keys(rt, of)?;
+        edges::states(rt, of.hash)?;
+        edges::state_lengths(rt, of.hash)?;
+        edges::limit(rt, of.hash)?;
+        edges::large_counts(rt, of.hash)?;
+        sizes::rows(rt, of)?;
+        comparison::rows(rt, of)?;
     }
     Ok(())
 }

@@ -1,5 +1,5 @@
 -- Proved: laws of the hashes that we make, for the layers above. Assumes nothing.
-use Rattle.std.specs.Prelude.{◌≡◌, refl, ◌↔◌, Bool, true, false, cond, ◌&&◌, ℕ, ◌*◌, ◌≤◌, ◌<◌, leb}
+use Rattle.std.specs.Prelude.{◌≡◌, refl, ◌↔◌, Bool, true, false, cond, ◌&&◌, ℕ, ◌*◌, ◌≤◌, ◌<◌, leb, Result, Ok, Err}
 use Rattle.std.proofs.Common.{sym, ap, ◌∙◌, true≢false, le_refl, arith, lit<, lit≤, le-leb}
 use Rattle.std.proofs.Math.Bool.{and-false}
 use Rattle.std.proofs.Math.Decide.{dec_le}
@@ -7,16 +7,17 @@ use Rattle.std.proofs.lemmas.Bool.{lt-leb}
 use Rattle.algorithm.specs.Hashes.{block_of, size_of, shortest_of, allowed, Sizes}
 use Rattle.algorithm.specs.declared.hashes.Hash.{Hash}
 use Rattle.algorithm.specs.declared.hashes.Hash.TheVariants.{Sha256, Sha512}
-use Rattle.algorithm.specs.declared.hashes.Named.TheVariants.{Is, Unknown}
+use Rattle.algorithm.specs.declared.refusals.Refusal.{Refusal}
+use Rattle.algorithm.specs.declared.refusals.Refusal.TheVariants.{UnknownHash}
 
--- an answer by a test, `Is` or `Unknown`, says how the test came out, and which hash it was
-pub unknown : (b : Bool) (h : Hash) → cond b (Is h) Unknown ≡ Unknown → b ≡ false
-unknown true h e = let z : ◌≡◌ {A = ℕ} 0 1 = cc in absurd (omega arith)
-unknown false h e = refl
+-- an answer by a test, a hash or a refusal, says how the test came out, and which hash or refusal it was
+pub unknown : (b : Bool) (h : Hash) (e f : Refusal) → cond b (Ok h) (Err e) ≡ Err f → (b ≡ false) × (e ≡ f)
+unknown true h e f q = let z : ◌≡◌ {A = ℕ} 0 1 = cc in absurd (omega arith)
+unknown false h e f q = (refl, cc)
 
-pub known : (b : Bool) (g h : Hash) → cond b (Is g) Unknown ≡ Is h → (b ≡ true) × (g ≡ h)
-known true g h e = (refl, cc)
-known false g h e = let z : ◌≡◌ {A = ℕ} 0 1 = cc in absurd (omega arith)
+pub known : (b : Bool) (g h : Hash) (e : Refusal) → cond b (Ok g) (Err e) ≡ Ok h → (b ≡ true) × (g ≡ h)
+known true g h e q = (refl, cc)
+known false g h e q = let z : ◌≡◌ {A = ℕ} 0 1 = cc in absurd (omega arith)
 
 -- the sizes, by the hashes that we make
 pub sizes : (h : Hash) → Sizes h

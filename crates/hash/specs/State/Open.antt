@@ -1,8 +1,7 @@
 -- Proved: work in pieces opened, for this crate's own proofs alone: the definitions as the code goes. Assumes nothing.
-use Rattle.std.specs.Prelude.{◌≡◌, ℕ, ◌+◌, ◌-◌, ◌<◌, ◌≤◌, true, false, List, [], ◌++◌, length, take, drop, replicate, nat_eq, refl}
+use Rattle.std.specs.Prelude.{◌≡◌, ℕ, ◌+◌, ◌-◌, ◌<◌, true, List, [], ◌++◌, length, take, drop, replicate, nat_eq, refl, ◌≤◌, false}
 use Rattle.std.proofs.Common.{ap, ◌∙◌, append_assoc, arith, length-append, length-drop, take-append-drop, drop-drop, le-leb}
 use Rattle.std.proofs.Math.Seq.{take-length, paste}
-use Rattle.std.proofs.lemmas.Bool.{lt-leb}
 use Rattle.algorithm.specs.Hashes.Laws.{block_positive}
 use Rattle.octets.specs.Every.{all_zero}
 use Rattle.octets.specs.Every.Laws.{every_drop, all_zeros}
@@ -10,15 +9,16 @@ use Rattle.octets.specs.Parts.{part_all}
 use Rattle.algorithm.specs.declared.hashes.Hash.{Hash}
 use Rattle.algorithm.specs.declared.hashes.Hash.TheVariants.{Sha256}
 use Rattle.algorithm.specs.Hashes.{block_of}
-use Rattle.algorithm.specs.Refusals.{most_bytes}
 use Rattle.hash.specs.Description.{describe}
 use Rattle.hash.specs.Blocks.Laws.{left_short, left_after_run, words_short, words_after_run}
 use Rattle.hash.specs.Run.{Run}
 use Rattle.hash.specs.Sha2.{step, keep}
-use Rattle.hash.specs.State.{largest_block, waiting_count, waiting_of, fit, words_of, last_words, sound_of, fresh_of, zero_state, after_of, end_of}
+use Rattle.hash.specs.State.{largest_block, waiting_count, waiting_of, words_of, last_words, sound_of, fresh_of, zero_state, after_of, end_of, fit}
 use Rattle.hash.specs.State.Laws.{waiting_length, sound_zeros}
 use Rattle.hash.specs.Inside.{Fills, with_waiting, onward_of}
 use Rattle.hash.specs.declared.state.State.{State}
+use Rattle.std.proofs.lemmas.Bool.{lt-leb}
+use Rattle.algorithm.specs.Refusals.{most_bytes}
 
 pub fresh_is : (h : Hash) → fresh_of h ≡ record { hash = h; words = (describe h).first; count = 0; waiting = replicate largest_block 0 }
 unfolding fresh_of

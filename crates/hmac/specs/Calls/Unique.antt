@@ -1,10 +1,12 @@
 -- Proved: no second outcome: what meets the outcome predicate of a call, as its contract cites it, is one. Assumes nothing.
-use Rattle.std.specs.Prelude.{◌≡◌, Bool, List, ℕ}
+use Rattle.std.specs.Prelude.{◌≡◌, Bool, List, ℕ, Result}
+use Rattle.std.proofs.Common.{ap}
 use Rattle.algorithm.specs.Checks.Laws.{one_outcome}
-use Rattle.hmac.specs.Calls.{StartOutcome, SoundOutcome, UpdateOutcome, TagOutcome, VerifyOutcome, TagMessageOutcome, VerifyMessageOutcome}
+use Rattle.hmac.specs.Calls.{Started, Fed, started_by, StartOutcome, SoundOutcome, UpdateOutcome, TagOutcome, VerifyOutcome, TagMessageOutcome, VerifyMessageOutcome}
 use Rattle.hmac.specs.declared.keyed.Keyed.{Keyed}
-use Rattle.hmac.specs.declared.keyed.Started.{Started}
-use Rattle.hmac.specs.declared.keyed.Fed.{Fed}
+use Rattle.algorithm.specs.Answers.Laws.{valued_unique}
+use Rattle.algorithm.specs.declared.refusals.Refusal.{Refusal}
+use Rattle.hmac.specs.Keyed.{zero_keyed}
 
 pub start_unique : (n : ℕ) (key : List ℕ) (t : ℕ) (r r' : Started) → StartOutcome n key t r → StartOutcome n key t r' → r ≡ r'
 start_unique n key t r r' = one_outcome
@@ -29,3 +31,7 @@ tag_message_unique n key m t out r r' o o' = one_outcome
 pub verify_message_unique : (n : ℕ) (key m : List ℕ) (t : ℕ) (presented : List ℕ) (r r' : ℕ)
     → VerifyMessageOutcome n key m t presented r → VerifyMessageOutcome n key m t presented r' → r ≡ r'
 verify_message_unique n key m t presented r r' = one_outcome
+
+-- nor does a second answer of the code to a start have one number and keyed state
+pub start_answer_unique : (r r' : Result Keyed Refusal) → started_by r ≡ started_by r' → r ≡ r'
+start_answer_unique r r' h = valued_unique zero_keyed r r' (ap (λ (f : Started). (f.number, f.keyed)) h)

@@ -9,7 +9,7 @@ use Rattle.algorithm.specs.Refusals.{done, most_bytes}
 use Rattle.hash.specs.State.Laws.{sound_count}
 use Rattle.hmac.specs.Keyed.{inner_of, HeldKeyed, fresh_keyed, after_keyed}
 use Rattle.hmac.specs.Keyed.Laws.{sound_inner, keyed_count, keyed_length, keyed_held, keyed_after_length, keyed_after_count, keyed_after_held, keyed_after_append, keyed_after_nothing, full_fresh}
-use Rattle.hmac.specs.Calls.{start_of, update_of, tag_answer, verify_answer, tag_message_answer, verify_message_answer}
+use Rattle.hmac.specs.Calls.{Fed, start_of, update_of, tag_answer, verify_answer, tag_message_answer, verify_message_answer}
 use Rattle.hmac.specs.Calls.Laws.{start_fresh, start_done, start_passes, start_held, update_too_long, update_accepted, message_tag, message_verify}
 use Rattle.algorithm.specs.Pieces.{Taking, after_all, taken_of, Cut}
 use Rattle.algorithm.specs.Pieces.Laws.{after_all_lem, all_held, cut_taken}
@@ -17,7 +17,6 @@ use Rattle.hmac.specs.Inside.{Message}
 use Rattle.hmac.specs.Pieces.{given, work, Leads}
 use Rattle.hmac.specs.Pieces.Leads.{one, more}
 use Rattle.hmac.specs.declared.keyed.Keyed.{Keyed}
-use Rattle.hmac.specs.declared.keyed.Fed.{Fed}
 
 -- what the laws of a run need to know of a keyed state
 pub taking : Taking work

@@ -11,12 +11,11 @@ use Rattle.algorithm.specs.Pieces.{after_all}
 use Rattle.algorithm.specs.Pieces.Laws.{all_held}
 use Rattle.hmac.specs.Keyed.{sound_keyed}
 use Rattle.hmac.specs.Keyed.Laws.{keyed_length, keyed_after_length, zero_not_sound}
-use Rattle.hmac.specs.Calls.{message_checks, start_of, update_of, verify_answer, verify_message_answer}
+use Rattle.hmac.specs.Calls.{Fed, message_checks, start_of, update_of, verify_answer, verify_message_answer}
 use Rattle.hmac.specs.Calls.Laws.{start_fresh, start_held, start_zeros, taken_after, refused_same, update_not_sound, tag_passes, verify_tag, verify_not_sound, verify_wrong_size, verify_message_tag}
 use Rattle.hmac.specs.Pieces.{given}
 use Rattle.hmac.specs.Pieces.Laws.{taking}
 use Rattle.hmac.specs.declared.keyed.Keyed.{Keyed}
-use Rattle.hmac.specs.declared.keyed.Fed.{Fed}
 
 -- a piece keeps the length of any keyed state, taken or refused, and so do any pieces
 pub update_length : (k : Keyed) (p : List ℕ) → (update_of k p).keyed.tag_length ≡ k.tag_length

@@ -1,10 +1,12 @@
 -- Proved: no second outcome: what meets the outcome predicate of a call, as its contract cites it, is one. Assumes nothing.
-use Rattle.std.specs.Prelude.{◌≡◌, List, ℕ}
+use Rattle.std.specs.Prelude.{◌≡◌, refl, List, ℕ, Result, Ok, Err}
+use Rattle.std.proofs.Common.{ap}
+use Rattle.algorithm.specs.Answers.Laws.{refusal_unique, valued_unique}
 use Rattle.algorithm.specs.Checks.Laws.{one_outcome}
-use Rattle.ledger.specs.Calls.{SubmitOutcome, AnswerNumberOutcome, AnswerSeenOutcome, SubmitShownOutcome, TotalOutcome}
+use Rattle.algorithm.specs.declared.refusals.Refusal.{Refusal}
+use Rattle.ledger.specs.Calls.{Answer, Summed, answer_by, summed_by, SubmitOutcome, AnswerNumberOutcome, AnswerSeenOutcome, SubmitShownOutcome, TotalOutcome}
+use Rattle.ledger.specs.declared.answers.Answer as answers
 use Rattle.ledger.specs.declared.records.Record.{Record}
-use Rattle.ledger.specs.declared.answers.Answer.{Answer}
-use Rattle.ledger.specs.declared.totals.Summed.{Summed}
 
 pub submit_unique : (rs : List Record) (s tag_key fingerprint_key : List ℕ) (r r' : Answer) (o o' : List Record)
     → SubmitOutcome rs s tag_key fingerprint_key r o → SubmitOutcome rs s tag_key fingerprint_key r' o'
@@ -24,3 +26,18 @@ submit_shown_unique rs s tag_key fingerprint_key r r' seen seen' o o' = one_outc
 
 pub total_unique : (rs : List Record) (r r' : Summed) → TotalOutcome rs r → TotalOutcome rs r' → r ≡ r'
 total_unique rs r r' = one_outcome
+
+-- nor does a second answer of the code have one view
+pub submit_answer_unique : (r r' : Result answers.Answer Refusal) → answer_by r ≡ answer_by r' → r ≡ r'
+submit_answer_unique (Ok answers.Answer.New) (Ok answers.Answer.New) h = refl
+submit_answer_unique (Ok answers.Answer.New) (Ok answers.Answer.Seen) h = cc
+submit_answer_unique (Ok answers.Answer.New) (Err f) h = cc
+submit_answer_unique (Ok answers.Answer.Seen) (Ok answers.Answer.New) h = cc
+submit_answer_unique (Ok answers.Answer.Seen) (Ok answers.Answer.Seen) h = refl
+submit_answer_unique (Ok answers.Answer.Seen) (Err f) h = cc
+submit_answer_unique (Err e) (Ok answers.Answer.New) h = cc
+submit_answer_unique (Err e) (Ok answers.Answer.Seen) h = cc
+submit_answer_unique (Err e) (Err f) h = ap Err (refusal_unique e f (cc))
+
+pub total_answer_unique : (r r' : Result ℕ Refusal) → summed_by r ≡ summed_by r' → r ≡ r'
+total_answer_unique r r' h = valued_unique 0 r r' (ap (λ (s : Summed). (s.number, s.total)) h)

@@ -1,6 +1,7 @@
 -- Proved: laws of a tally: one number more in its sum, and one record more after the others. Assumes nothing.
 use Rattle.std.proofs.Math.Path.{◌≡◌, refl, sym}
-use Rattle.std.specs.Prelude.{Bool, ◌&&◌, ◌||◌, ℕ, suc, ◌+◌, ◌-◌, ◌≤◌, leb, ltb}
+use Rattle.std.specs.Prelude.{Bool, ◌&&◌, ◌||◌, ℕ, suc, ◌+◌, ◌-◌, ◌≤◌, leb, ltb, Some, None}
+use Rattle.std.specs.Option.{is_some}
 use Rattle.std.proofs.Math.Bool.{true, false, not, cond, and-true, and-false, and_assoc, or-false, or_assoc}
 use mathlib.Core.List.{List, [], ◌∷◌, ◌++◌}
 use Rattle.std.proofs.Math.Nat.{add-zero}
@@ -10,33 +11,30 @@ use Rattle.std.proofs.lemmas.Bool.{lt-leb}
 use Rattle.octets.specs.Same.{equal}
 use Rattle.octets.specs.Same.Laws.{equal_sym}
 use Rattle.octets.specs.Sums.{largest_total, plus_of}
-use Rattle.octets.specs.declared.sums.Sum.{Sum}
 use Rattle.ledger.specs.Records.{used, is_zero, all_used, all_free, used_first, free_zero, taken, none_twice, total_of}
 use Rattle.ledger.specs.Inside.{count_of, sum_as, tally_of, with_record, with_used, with_free}
 use Rattle.ledger.specs.declared.records.Record.{Record}
 use Rattle.ledger.specs.declared.surveying.Tally.{Tally}
 
 -- a sum of live bytes: one number more, and whether it passed the largest total
-pub plus_within : (t x : ℕ) → t ≤ largest_total → plus_of (record { over = false; total = t }) x ≡ sum_as (t + x)
+pub plus_within : (t x : ℕ) → t ≤ largest_total → plus_of (Some t) x ≡ sum_as (t + x)
 plus_within t x h = by_test (ltb (largest_total - t) x) refl
   where
-    by_test : (b : Bool) → ltb (largest_total - t) x ≡ b
-        → cond b (record { over = true; total = 0 }) (record { over = false; total = t + x }) ≡ sum_as (t + x)
+    by_test : (b : Bool) → ltb (largest_total - t) x ≡ b → cond b None (Some (t + x)) ≡ sum_as (t + x)
     by_test true e = rw (lt-leb (t + x) largest_total (omega (arith, ltb-true (largest_total - t) x e)))
     by_test false e = rw (le-leb (t + x) largest_total (omega (arith, ltb-false (largest_total - t) x e)))
 
 plus_as : (t x : ℕ) → plus_of (sum_as t) x ≡ sum_as (t + x)
 plus_as t x = by_test (leb t largest_total) refl
   where
-    by_test : (b : Bool) → leb t largest_total ≡ b
-        → plus_of (cond b (record { over = false; total = t }) (record { over = true; total = 0 })) x ≡ sum_as (t + x)
+    by_test : (b : Bool) → leb t largest_total ≡ b → plus_of (cond b (Some t) None) x ≡ sum_as (t + x)
     by_test true e = plus_within t x (leb-true t largest_total e)
     by_test false e = rw (lt-leb (t + x) largest_total (omega (arith, leb-false t largest_total e)))
 
-pub over_as : (t : ℕ) → (sum_as t).over ≡ not (leb t largest_total)
-over_as t = by_test (leb t largest_total)
+pub some_as : (t : ℕ) → is_some (sum_as t) ≡ leb t largest_total
+some_as t = by_test (leb t largest_total)
   where
-    by_test : (b : Bool) → (cond {A = Sum} b (record { over = false; total = t }) (record { over = true; total = 0 })).over ≡ not b
+    by_test : (b : Bool) → is_some (cond b (Some t) None) ≡ b
     by_test true = refl
     by_test false = refl
 

@@ -18,24 +18,28 @@ module _ (s o : List ℕ) where
   over_long h = rw (drop_of_length-le o h, append-nil)
 
 -- one element more, copied to its own place
-copied : (i : ℕ) (s o : List ℕ) → i < length s → i < length o
-    → set (take i s ++ drop i o) i (get_or s i 0) ≡ take (suc i) s ++ drop (suc i) o
-copied i [] o h k = absurd (not-suc-le-zero h)
-copied i (a ∷ s) [] h k = absurd (not-suc-le-zero k)
-copied zero (a ∷ s) (b ∷ o) h k = refl
-copied (suc i) (a ∷ s) (b ∷ o) h k = ap (λ (t : List ℕ). a ∷ t) (copied i s o (le_of_suc-le-suc h) (le_of_suc-le-suc k))
+copied : {A : Type 0} (d : A) (i : ℕ) (s o : List A) → i < length s → i < length o
+    → set (take i s ++ drop i o) i (get_or s i d) ≡ take (suc i) s ++ drop (suc i) o
+copied d i [] o h k = absurd (not-suc-le-zero h)
+copied d i (a ∷ s) [] h k = absurd (not-suc-le-zero k)
+copied d zero (a ∷ s) (b ∷ o) h k = refl
+copied d (suc i) (a ∷ s) (b ∷ o) h k = ap (λ (t : List _). a ∷ t) (copied d i s o (le_of_suc-le-suc h) (le_of_suc-le-suc k))
+
+pub copy_next : {A : Type 0} (d : A) (i : ℕ) (s o : List A) → i < length s → i < length o
+    → set (take i s ++ drop i o) i (get_or s i d) ≡ take (i + 1) s ++ drop (i + 1) o
+copy_next d i s o h k = rw (add-one i) (copied d i s o h k)
 
 pub copy_more : (i : ℕ) (s o : List ℕ) → i < length s → i < length o
     → set (take i s ++ drop i o) i (get_or s i 0) ≡ take (i + 1) s ++ drop (i + 1) o
-copy_more i s o h k = rw (add-one i) (copied i s o h k)
+copy_more = copy_next 0
 
 -- the copy has reached the end of s, or that of o
-pub copied_src : (i : ℕ) (s o : List ℕ) → i ≡ length s → i ≤ length o → take i s ++ drop i o ≡ over s o
+pub copied_src : {A : Type 0} (i : ℕ) (s o : List A) → i ≡ length s → i ≤ length o → take i s ++ drop i o ≡ over s o
 copied_src i s o e k =
     let h : length s ≤ length o = omega arith in
     rw (e, take-length, take_all (length o) s h)
 
-pub copied_out : (i : ℕ) (s o : List ℕ) → i ≡ length o → i ≤ length s → take i s ++ drop i o ≡ over s o
+pub copied_out : {A : Type 0} (i : ℕ) (s o : List A) → i ≡ length o → i ≤ length s → take i s ++ drop i o ≡ over s o
 copied_out i s o e k =
     let h : length o ≤ length s = omega arith in
     rw (e, drop-length, drop_of_length-le o h)

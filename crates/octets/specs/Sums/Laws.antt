@@ -1,8 +1,7 @@
 -- Proved: laws of the sum of some numbers, and of one that knows whether it passed 2^64 - 1. Assumes nothing.
-use Rattle.std.specs.Prelude.{◌≡◌, refl, Bool, true, false, cond, ◌||◌, List, [], ◌∷◌, ◌++◌, ℕ, zero, suc, ◌+◌, ◌-◌, ◌≤◌, ◌<◌, ltb, length, take, get_or}
-use Rattle.std.proofs.Common.{sym, ap, ◌∙◌, true≢false, add-zero, add-one, arith, take-suc, ltb-true}
-use Rattle.octets.specs.Sums.{sum_of, largest_total, plus_of, SumBy, SumIs}
-use Rattle.octets.specs.declared.sums.Sum.{Sum}
+use Rattle.std.specs.Prelude.{◌≡◌, refl, Bool, true, false, cond, List, [], ◌∷◌, ◌++◌, ℕ, zero, suc, ◌+◌, ◌-◌, ◌≤◌, ◌<◌, ltb, length, take, get_or, Option, Some, None}
+use Rattle.std.proofs.Common.{ap, ◌∙◌, add-zero, add-one, arith, take-suc, ltb-true}
+use Rattle.octets.specs.Sums.{sum_of, largest_total, plus_of, SumIs}
 
 sum_append : (a b : List ℕ) → sum_of (a ++ b) ≡ sum_of a + sum_of b
 unfolding sum_of
@@ -25,26 +24,18 @@ sum_part [] (suc i) = omega arith
 sum_part (n ∷ l) (suc i) = omega (arith, sum_part l i)
 
 -- one number more of a sum that knows whether it passed
-pub plus_is : (a : Sum) (x t : ℕ) → SumIs a t → SumIs (plus_of a x) (t + x)
-plus_is a x t = by_case a.over (ltb (largest_total - a.total) x) refl
+pub plus_is : (a : Option ℕ) (x t : ℕ) → SumIs a t → SumIs (plus_of a x) (t + x)
+plus_is None x t h = omega arith
+plus_is (Some n) x t h = by_case (ltb (largest_total - n) x) refl
   where
-    by_case : (o b : Bool) → ltb (largest_total - a.total) x ≡ b → SumBy o a.total t
-        → SumIs (cond (o || b) (record { over = true; total = 0 }) (record { over = false; total = a.total + x })) (t + x)
-    by_case true b e h = omega arith
-    by_case false true e h = omega (arith, ltb-true (largest_total - a.total) x e)
-    by_case false false e h = omega arith
+    by_case : (b : Bool) → ltb (largest_total - n) x ≡ b → SumIs (cond b None (Some (n + x))) (t + x)
+    by_case true e = omega (arith, ltb-true (largest_total - n) x e)
+    by_case false e = omega arith
 
--- what a sum says that passed the largest total, and one that did not
-pub sum_over : (a : Sum) (t : ℕ) → SumIs a t → a.over ≡ true → largest_total < t
-sum_over a t = by_case a.over
-  where
-    by_case : (o : Bool) → SumBy o a.total t → o ≡ true → largest_total < t
-    by_case true h e = h
-    by_case false h e = absurd (true≢false (sym e))
+-- A sum that is none passed the largest total.
+pub sum_over : (a : Option ℕ) (t : ℕ) → SumIs a t → a ≡ None → largest_total < t
+sum_over a t h e = rw e at h
 
-pub sum_within : (a : Sum) (t : ℕ) → SumIs a t → a.over ≡ false → a.total ≡ t
-sum_within a t = by_case a.over
-  where
-    by_case : (o : Bool) → SumBy o a.total t → o ≡ false → a.total ≡ t
-    by_case true h e = absurd (true≢false e)
-    by_case false h e = h
+-- A sum that is a number is the total.
+pub sum_within : (a : Option ℕ) (n t : ℕ) → SumIs a t → a ≡ Some n → n ≡ t
+sum_within a n t h e = rw e at h

@@ -1,6 +1,6 @@
 -- Proved: laws of the calls, for the layers above and for this crate's proofs: what each answers once its checks are known. Assumes
 -- nothing.
-use Rattle.std.specs.Prelude.{◌≡◌, refl, ◌↔◌, Bool, true, false, cond, ◌||◌, leb, ltb, eqb, drop}
+use Rattle.std.specs.Prelude.{◌≡◌, refl, ◌↔◌, Bool, true, false, cond, ◌||◌, leb, ltb, eqb, drop, Result, Ok, Err}
 use Rattle.std.proofs.Math.Path.{sym, ap}
 use Rattle.std.proofs.Common.{subst, ◌∙◌, true≢false, add-one, length-take-le, drop-drop}
 use mathlib.Core.List.{List, [], ◌∷◌, ◌++◌}
@@ -16,7 +16,8 @@ use Rattle.octets.specs.Parts.{part_front}
 use Rattle.octets.specs.Same.{equal}
 use Rattle.algorithm.specs.declared.hashes.Hash.{Hash}
 use Rattle.algorithm.specs.declared.hashes.Hash.TheVariants.{Sha256, Sha512}
-use Rattle.algorithm.specs.declared.hashes.Named.TheVariants.{Is, Unknown}
+use Rattle.algorithm.specs.declared.refusals.Refusal.{Refusal}
+use Rattle.algorithm.specs.declared.refusals.Refusal.TheVariants.{UnknownHash}
 use Rattle.algorithm.specs.Hashes.{names, hash_of, size_of, allowed}
 use Rattle.algorithm.specs.Hashes.Laws.{unknown, known}
 use Rattle.algorithm.specs.Refusals.{done, tag_differs, unknown_hash, key_too_long, key_too_short, wrong_size, prk_too_short, no_such_site, most_bytes}
@@ -33,16 +34,15 @@ use Rattle.report.specs.Reading.Laws.{read_refusing, first, passed, passes, pass
 use Rattle.report.specs.Fingerprint.{fingerprint_of}
 use Rattle.report.specs.Keys.{keys_of}
 use Rattle.report.specs.Layout.{Site, tag_size_of, live_of}
-use Rattle.report.specs.declared.sites.SiteAt.{SiteAt}
-use Rattle.report.specs.Calls.{reading_of, numbers_of, read_into_checks, read_into_answer, site_numbers, site_into_checks, site_into_answer, site_of, before, found_site, refused_site, Points, place_checks, site_answer, label_answer, key_checks, tag_checks, check_answer, fingerprint_checks, fingerprint_answer, keys_checks, keys_answer}
+use Rattle.report.specs.Calls.{SiteAt, reading_of, numbers_of, read_into_checks, read_into_answer, site_numbers, site_into_checks, site_into_answer, site_of, before, found_site, refused_site, Points, place_checks, site_answer, label_answer, key_checks, tag_checks, check_answer, fingerprint_checks, fingerprint_answer, keys_checks, keys_answer}
 
 -- what a report's number says: whether a report names a hash by it, and which
 module _ (n : ℕ) where
-  pub named_unknown : named_in n ≡ Unknown → names_hash n ≡ false
-  named_unknown e = unknown (names_hash n) (hash_named n) e
+  pub named_unknown : (f : Refusal) → named_in n ≡ Err f → (names_hash n ≡ false) × (f ≡ UnknownHash)
+  named_unknown f e = let u = unknown (names_hash n) (hash_named n) UnknownHash f e in (u.0, sym u.1)
 
-  pub named_is : (h : Hash) → named_in n ≡ Is h → (names_hash n ≡ true) × (hash_named n ≡ h)
-  named_is h e = known (names_hash n) (hash_named n) h e
+  pub named_is : (h : Hash) → named_in n ≡ Ok h → (names_hash n ≡ true) × (hash_named n ≡ h)
+  named_is h e = known (names_hash n) (hash_named n) h UnknownHash e
 
 -- a hash that a report names is made, under the same number
 pub report_hash : (n : ℕ) → names_hash n ≡ true → (names n ≡ true) × (hash_of n ≡ hash_named n)

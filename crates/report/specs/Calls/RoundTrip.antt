@@ -26,12 +26,10 @@ use Rattle.report.specs.Writing.{Columns, columns, site_from, sites_from, sites_
 use Rattle.report.specs.Writing.SitesFit.{nothing, also}
 use Rattle.report.specs.Writing.Reads.{sites_most, body_length, hash_read, before_tag_lem, from_tag, whole_passes, read_whole}
 use Rattle.report.specs.Writing.Inside.{ColumnsFit, Planned, Accepted, plan_checks}
-use Rattle.report.specs.Calls.{reading_of, site_of, found_site, site_answer, label_answer, key_checks, check_answer, column_checks, wrote_report, write_answer, report_in, heading_read, places_from, columns_at, columns_read}
+use Rattle.report.specs.Calls.{SiteAt, Written, reading_of, site_of, found_site, site_answer, label_answer, key_checks, check_answer, column_checks, wrote_report, write_answer, report_in, heading_read, places_from, columns_at, columns_read}
 use Rattle.report.specs.Calls.Laws.{check_tag, there_done, site_there, label_there}
 use Rattle.report.specs.Calls.Write.{plan_parts, accepted, write_accepted, write_number}
-use Rattle.report.specs.declared.sites.SiteAt.{SiteAt}
 use Rattle.report.specs.declared.writing.Heading.{Heading}
-use Rattle.report.specs.declared.writing.Written.{Written}
 
 -- sites from columns that no check refuses fit the layout
 sites_fit : (labels lengths live blocks : List ℕ) → every label_fits lengths ≡ true → length labels ≡ sum_of lengths → sum_of live ≤ largest_total

@@ -12,10 +12,9 @@ use Rattle.algorithm.specs.Checks.Laws.{done_passes, passes_done, refuses, exact
 use Rattle.report.specs.Layout.{Fields}
 use Rattle.report.specs.Writing.{Columns, sites_of, fields_from, report_of}
 use Rattle.report.specs.Writing.Inside.{ColumnsFit, Planned, Accepted, plan_checks}
-use Rattle.report.specs.Calls.{key_checks, column_checks, write_checks, refused_write, wrote_report, write_answer}
+use Rattle.report.specs.Calls.{Written, key_checks, column_checks, write_checks, refused_write, wrote_report, write_answer}
 use Rattle.report.specs.Calls.Laws.{key_refusing}
 use Rattle.report.specs.declared.writing.Heading.{Heading}
-use Rattle.report.specs.declared.writing.Written.{Written}
 
 -- what passing checks say: those of the columns, those before the key, and all
 module _ (c : Columns) where

@@ -1,10 +1,12 @@
 -- Private: what the private functions of writing a report ask and promise, and what the laws of writing speak of. Assumes nothing.
-use Rattle.std.specs.Prelude.{◌≡◌, Bool, true, cond, List, ◌∷◌, ◌++◌, ℕ, ◌+◌, ◌*◌, ◌≤◌, ◌<◌, length, take, drop, get_or}
+use Rattle.std.specs.Prelude.{◌≡◌, true, List, ◌∷◌, ◌++◌, ℕ, ◌+◌, ◌*◌, ◌≤◌, ◌<◌, length, take, drop, get_or, Result, Ok, Err}
 use Rattle.std.proofs.Math.Seq.{paste}
 use Rattle.octets.specs.Every.{every}
 use Rattle.octets.specs.Number.{bytes}
 use Rattle.octets.specs.Sums.{sum_of, largest_total}
-use Rattle.algorithm.specs.Refusals.{done, unknown_hash, buffer_too_short, most_bytes}
+use Rattle.algorithm.specs.Refusals.{done, unknown_hash, most_bytes}
+use Rattle.algorithm.specs.Answers.{number_of}
+use Rattle.algorithm.specs.declared.refusals.Refusal.{Refusal}
 use Rattle.algorithm.specs.Checks.{Check, check, first_failing, decided, Pass}
 use Rattle.hmac.specs.Hmac.{tag_of}
 use Rattle.report.specs.Layout.{Site, site_bytes, tag_size_of}
@@ -12,7 +14,7 @@ use Rattle.report.specs.Reading.{names_hash, hash_named}
 use Rattle.report.specs.Writing.{Columns, site_from, sites_of, fields_from, report_of, label_fits}
 use Rattle.report.specs.Calls.{key_checks, column_checks}
 use Rattle.report.specs.declared.writing.Heading.{Heading}
-use Rattle.report.specs.declared.plans.Plan.{Plan}
+use Rattle.report.specs.declared.plans.Plan as plans
 
 -- what columns have that no check refuses
 pub record ColumnsFit (c : Columns) : Type 0 where
@@ -40,8 +42,15 @@ plan_checks n c = check (names_hash n) unknown_hash ∷ column_checks c
 abbrev pub body_size_of : Columns → ℕ
 body_size_of c = 45 + length c.labels + 13 * length c.lengths
 
-abbrev pub stopped_plan : ℕ → Plan
-stopped_plan n = record { number = n; body_size = 0; tag_size = 0 }
+-- a plan, or the number that refuses it and zeros
+pub record Plan : Type 0 where
+  pub number : ℕ
+  pub body_size : ℕ
+  pub tag_size : ℕ
+
+abbrev pub plan_by : Result plans.Plan Refusal → Plan
+plan_by (Ok p) = record { number = done; body_size = p.body_size; tag_size = p.tag_size }
+plan_by (Err e) = record { number = number_of e; body_size = 0; tag_size = 0 }
 
 abbrev pub plan_of : ℕ → Columns → Plan
 plan_of n c = record {
@@ -50,22 +59,14 @@ plan_of n c = record {
   tag_size = decided (plan_checks n c) (tag_size_of n) 0;
 }
 
--- the last checks: the number of a key that is refused, then that of a buffer that is too short
-abbrev pub last_of : ℕ → Bool → Bool → ℕ
-last_of number refused short = cond refused number (cond short buffer_too_short done)
-
--- the bytes before the first site, in two parts, and those of a site's numbers
-unfoldable pub first_bytes : Heading → ℕ → List ℕ
-first_bytes h count = bytes 4 count ++ (bytes 1 1 ++ (bytes 1 h.hash ++ (bytes 4 h.tenant ++ bytes 8 h.machine)))
-
-unfoldable pub other_bytes : Heading → ℕ → List ℕ
-other_bytes h sites = bytes 8 h.report ++ (bytes 8 h.sent ++ (bytes 1 h.attempt ++ (bytes 8 h.memory ++ bytes 2 sites)))
-
-abbrev pub head_bytes : Heading → ℕ → ℕ → List ℕ
-head_bytes h count sites = first_bytes h count ++ other_bytes h sites
-
-unfoldable pub number_bytes : ℕ → ℕ → List ℕ
-number_bytes live blocks = bytes 8 live ++ bytes 4 blocks
+-- the bytes before the first site
+unfoldable pub head_bytes : Heading → ℕ → ℕ → List ℕ
+head_bytes h count sites =
+    bytes 4 count
+    ++ (bytes 1 1
+    ++ (bytes 1 h.hash
+    ++ (bytes 4 h.tenant
+    ++ (bytes 8 h.machine ++ (bytes 8 h.report ++ (bytes 8 h.sent ++ (bytes 1 h.attempt ++ (bytes 8 h.memory ++ bytes 2 sites))))))))
 
 -- the site at a place, whose label starts in the labels at `from`, fits into an output after the sites before it, and is written there
 pub record Next (c : Columns) (place from : ℕ) (out : List ℕ) : Type 0 where
@@ -73,9 +74,7 @@ pub record Next (c : Columns) (place from : ℕ) (out : List ℕ) : Type 0 where
   pub few : length c.lengths ≤ 64
   pub live_many : length c.live ≡ length c.lengths
   pub blocks_many : length c.blocks ≡ length c.lengths
-  pub most : get_or c.lengths place 0 ≤ 48
   pub there : from + get_or c.lengths place 0 ≤ length c.labels
-  pub labels : length c.labels ≤ 3072
   pub room : from + 13 * place + (get_or c.lengths place 0 + 13) ≤ length out
 
 abbrev pub site_next : Columns → ℕ → ℕ → Site

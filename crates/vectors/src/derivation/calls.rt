@@ -1,27 +1,25 @@
 // The calls of HKDF, each with what it answers. Outputs hold a5 everywhere before.
-use crate::say;
+use crate::say::Hex;
+use algorithm::Refusal;
 use std::io;
 
-// The SHA-256 digest of a long output.
-fn digest_of(rt: &impl Print, out: &[u8]) -> io::Result<()> {
-    let mut digest = [0u8; 32];
-    hash::digest(1, out, &mut digest);
-    say::text(rt, b"SHA-256 ")?;
-    say::hex(rt, &digest)
+// What a key is derived from, and the info that goes into its bytes.
+#[derive(Clone, Copy)]
+pub(crate) struct Inputs<'a> {
+    pub(crate) salt: &'a [u8],
+    pub(crate) material: &'a [u8],
+    pub(crate) info: &'a [u8],
 }
 
-// The number and the output of a call; of a long output its digest.
-fn answer(rt: &impl Print, number: u32, out: &[u8]) -> io::Result<()> {
-    say::number(rt, number as u64)?;
-    say::text(rt, b", ")?;
-    say::number(rt, out.len() as u64)?;
-    say::text(rt, b" bytes: ")?;
+// The number and the output of a call; of an output over 100 bytes its digest.
+fn answer(rt: &impl Print, answered: Result<(), Refusal>, out: &[u8]) -> io::Result<()> {
+    print!(rt; "{}, {} bytes: ", algorithm::number(answered), out.len())?;
     if out.len() <= 100 {
-        say::hex(rt, out)?;
-    } else {
-        digest_of(rt, out)?;
+        return println!(rt; "{}", Hex(out));
     }
-    say::text(rt, b"\n")
+    let mut digest = [0; 32];
+    let _ = hash::digest(1, out, &mut digest);
+    println!(rt; "SHA-256 {}", Hex(&digest))
 }
 
 fn extract_to(
@@ -31,23 +29,12 @@ fn extract_to(
     material: &[u8],
     out: &mut [u8],
 ) -> io::Result<()> {
+    print!(rt; "  extract: ")?;
     let answered = hkdf::extract(hash_number, salt, material, out);
-    say::text(rt, b"  extract: ")?;
     answer(rt, answered, out)
 }
 
-fn expand_to(
-    rt: &impl Print,
-    hash_number: u32,
-    key: &[u8],
-    info: &[u8],
-    out: &mut [u8],
-) -> io::Result<()> {
-    let answered = hkdf::expand(hash_number, key, info, out);
-    say::text(rt, b"  expand: ")?;
-    answer(rt, answered, out)
-}
-
+// Into an output of some bytes, at most 65.
 pub(crate) fn extract(
     rt: &impl Print,
     hash_number: u32,
@@ -55,13 +42,11 @@ pub(crate) fn extract(
     material: &[u8],
     size: usize,
 ) -> io::Result<()> {
-    let mut out = [0xa5u8; 65];
-    if size <= 65 {
-        extract_to(rt, hash_number, salt, material, &mut out[0..size])?;
-    }
-    Ok(())
+    let mut out = [0xa5; 65];
+    extract_to(rt, hash_number, salt, material, &mut out[..size.min(65)])
 }
 
+// Into an output of some bytes, at most 16,321.
 pub(crate) fn expand(
     rt: &impl Print,
     hash_number: u32,
@@ -69,39 +54,23 @@ pub(crate) fn expand(
     info: &[u8],
     size: usize,
 ) -> io::Result<()> {
-    let mut out = [0xa5u8; 16321];
-    if size <= 16321 {
-        expand_to(rt, hash_number, key, info, &mut out[0..size])?;
-    }
-    Ok(())
+    let mut space = [0xa5; 16321];
+    let out = &mut space[..size.min(16321)];
+    print!(rt; "  expand: ")?;
+    let answered = hkdf::expand(hash_number, key, info, out);
+    answer(rt, answered, out)
 }
 
-// A key from salt and material, and so many bytes from it.
-fn derive_by(
-    rt: &impl Print,
-    hash_number: u32,
-    salt: &[u8],
-    material: &[u8],
-    key: &mut [u8],
-    info: &[u8],
-    size: usize,
-) -> io::Result<()> {
-    extract_to(rt, hash_number, salt, material, key)?;
-    expand(rt, hash_number, key, info, size)
-}
-
+// A key, and so many bytes from it.
 pub(crate) fn derive(
     rt: &impl Print,
     hash_number: u32,
-    salt: &[u8],
-    material: &[u8],
-    info: &[u8],
+    inputs: Inputs,
     size: usize,
 ) -> io::Result<()> {
-    let mut key = [0xa5u8; 64];
-    if hash_number == 1 {
-        derive_by(rt, hash_number, salt, material, &mut key[0..32], info, size)
-    } else {
-        derive_by(rt, hash_number, salt, material, &mut key, info, size)
-    }
+    let mut space = [0xa5; 64];
+    let key_size = if hash_number == 1 { 32 } else { 64 };
+    let key = &mut space[..key_size];
+    extract_to(rt, hash_number, inputs.salt, inputs.material, key)?;
+    expand(rt, hash_number, key, inputs.info, size)
 }

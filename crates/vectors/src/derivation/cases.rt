@@ -1,106 +1,92 @@
 // The cases of HKDF: those that RFC 5869 prints, and lengths on both sides of each limit.
-ghost use Rattle.std.specs.Prelude.{◌≡◌, length};
-
-use crate::derivation::calls;
-use crate::say;
+use crate::derivation::calls::{self, Inputs};
+use crate::made;
 use std::io;
-
-// Eighty bytes that count up from the first.
-fn counted(first: u8) -> [u8; 80]
-    ensures { 80 ≡ length result }
-{
-    let mut bytes = [0u8; 80];
-    for i in 0..80 {
-        bytes[i] = ((first as usize + i) % 256) as u8;
-    }
-    bytes
-}
-
-fn case_1(rt: &impl Print) -> io::Result<()> {
-    let salt = counted(0x00);
-    let material = [0x0bu8; 22];
-    let info = counted(0xf0);
-    say::text(rt, b"RFC 5869, case 1\n")?;
-    calls::derive(rt, 1, &salt[0..13], &material, &info[0..10], 42)
-}
-
-fn case_2(rt: &impl Print) -> io::Result<()> {
-    let salt = counted(0x60);
-    let material = counted(0x00);
-    let info = counted(0xb0);
-    say::text(rt, b"RFC 5869, case 2\n")?;
-    calls::derive(rt, 1, &salt, &material, &info, 82)
-}
-
-fn case_3(rt: &impl Print) -> io::Result<()> {
-    let material = [0x0bu8; 22];
-    say::text(rt, b"RFC 5869, case 3\n")?;
-    calls::derive(rt, 1, b"", &material, b"", 42)
-}
 
 // RFC 5869, appendix A.
 pub(crate) fn published(rt: &impl Print) -> io::Result<()> {
-    case_1(rt)?;
-    case_2(rt)?;
-    case_3(rt)
+    println!(rt; "RFC 5869, case 1")?;
+    let case_1 = Inputs {
+        salt: &made::pattern::<13>(0x00),
+        material: &[0x0b; 22],
+        info: &made::pattern::<10>(0xf0),
+    };
+    calls::derive(rt, 1, case_1, 42)?;
+    println!(rt; "RFC 5869, case 2")?;
+    let case_2 = Inputs {
+        salt: &made::pattern::<80>(0x60),
+        material: &made::pattern::<80>(0x00),
+        info: &made::pattern::<80>(0xb0),
+    };
+    calls::derive(rt, 1, case_2, 82)?;
+    println!(rt; "RFC 5869, case 3")?;
+    let case_3 = Inputs {
+        salt: b"",
+        material: &[0x0b; 22],
+        info: b"",
+    };
+    calls::derive(rt, 1, case_3, 42)
 }
 
-fn salted(rt: &impl Print, hash_number: u32, size: usize) -> io::Result<()> {
-    let material = [0x0bu8; 22];
-    calls::derive(rt, hash_number, b"salt", &material, b"info", size)
-}
-
-fn unsalted(rt: &impl Print, hash_number: u32, size: usize) -> io::Result<()> {
-    let material = [0x0bu8; 22];
-    calls::derive(rt, hash_number, b"", &material, b"", size)
-}
-
-// Both calls with each hash: outputs of none, one, a digest less one, a digest, one more, the most that expand gives, and more.
-pub(crate) fn lengths(
-    rt: &impl Print,
-    hash_number: u32,
+// Lengths around a digest's, and around the most that expand gives.
+#[derive(Clone, Copy)]
+pub(crate) struct Around {
     less: usize,
-    size: usize,
+    digest: usize,
     one_more: usize,
     most: usize,
     too_many: usize,
-) -> io::Result<()> {
-    say::text(rt, b"hash ")?;
-    say::number(rt, hash_number as u64)?;
-    say::text(rt, b"\n")?;
-    salted(rt, hash_number, 0)?;
-    salted(rt, hash_number, 1)?;
-    salted(rt, hash_number, less)?;
-    unsalted(rt, hash_number, size)?;
-    salted(rt, hash_number, one_more)?;
-    salted(rt, hash_number, most)?;
-    salted(rt, hash_number, too_many)
 }
 
-// Fifty bytes under a key and with an info of these sizes.
-fn fifty(rt: &impl Print, hash_number: u32, key_size: usize, info_size: usize) -> io::Result<()> {
-    let key = [0x0bu8; 65];
-    let info = [0x1fu8; 1025];
-    if key_size <= 65 {
-        if info_size <= 1025 {
-            calls::expand(rt, hash_number, &key[0..key_size], &info[0..info_size], 50)?;
-        }
-    }
-    Ok(())
+pub(crate) const NARROW: Around = Around {
+    less: 31,
+    digest: 32,
+    one_more: 33,
+    most: 8160,
+    too_many: 8161,
+};
+
+pub(crate) const WIDE: Around = Around {
+    less: 63,
+    digest: 64,
+    one_more: 65,
+    most: 16320,
+    too_many: 16321,
+};
+
+// Both calls: outputs of none, one, a digest less one, a digest, one more, the most that expand gives, and more.
+pub(crate) fn lengths(rt: &impl Print, hash_number: u32, around: Around) -> io::Result<()> {
+    println!(rt; "hash {hash_number}")?;
+    let salted = Inputs {
+        salt: b"salt",
+        material: &[0x0b; 22],
+        info: b"info",
+    };
+    let unsalted = Inputs {
+        salt: b"",
+        material: &[0x0b; 22],
+        info: b"",
+    };
+    calls::derive(rt, hash_number, salted, 0)?;
+    calls::derive(rt, hash_number, salted, 1)?;
+    calls::derive(rt, hash_number, salted, around.less)?;
+    calls::derive(rt, hash_number, unsalted, around.digest)?;
+    calls::derive(rt, hash_number, salted, around.one_more)?;
+    calls::derive(rt, hash_number, salted, around.most)?;
+    calls::derive(rt, hash_number, salted, around.too_many)
 }
 
 // Keys and info on both sides of their limits, and outputs of extract of other sizes.
-pub(crate) fn limits(
-    rt: &impl Print,
-    hash_number: u32,
-    less: usize,
-    size: usize,
-    one_more: usize,
-) -> io::Result<()> {
-    fifty(rt, hash_number, size, 1024)?;
-    fifty(rt, hash_number, size, 1025)?;
-    fifty(rt, hash_number, less, 1025)?;
-    fifty(rt, hash_number, 65, 0)?;
-    calls::extract(rt, hash_number, b"salt", b"material", less)?;
-    calls::extract(rt, hash_number, b"salt", b"material", one_more)
+pub(crate) fn limits(rt: &impl Print, hash_number: u32, around: Around) -> io::Result<()> {
+    let key = [0x0b; 65];
+    let info = [0x1f; 1025];
+    let digest = &key[..around.digest.min(65)];
+    calls::expand(rt, hash_number, digest, &info[..1024], 50)?;
+    calls::expand(rt, hash_number, digest, &info, 50)?;
+    calls::expand(rt, hash_number, &key[..around.less.min(65)], &info, 50)?;
+    calls::expand(rt, hash_number, &key, b"", 50)?;
+    for size in [around.less, around.one_more] {
+        calls::extract(rt, hash_number, b"salt", b"material", size)?;
+    }
+    Ok(())
 }

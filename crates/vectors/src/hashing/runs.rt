@@ -1,7 +1,8 @@
 // Pieces that make whole blocks with what waits, zero to three of them, and the states that they lead to.
-use crate::hashing::{calls, messages};
 use crate::made;
+use crate::work::{self, Work};
 use algorithm::Hash;
+use hash::State;
 use std::io;
 
 // The count of a state, the whole blocks that its waiting bytes make with a piece, and the bytes left over. The first two pieces fill no
@@ -26,44 +27,16 @@ const RUNS: [[usize; 3]; 16] = [
     [127, 3, 0],
 ];
 
-pub(crate) fn all(rt: &impl Print, hash_number: u32) -> io::Result<()> {
-    for i in 0..16 {
-        one(rt, hash_number, RUNS[i])?;
-    }
-    Ok(())
-}
-
-fn one(rt: &impl Print, hash_number: u32, row: [usize; 3]) -> io::Result<()> {
-    let count = row[0];
-    let blocks = row[1];
-    let left = row[2];
-    if blocks < 4 {
-        if left < 2 {
-            match made::hash_of(hash_number) {
-                Hash::Sha256 => taken(rt, hash_number, count, count % 64, blocks * 64 + left)?,
-                Hash::Sha512 => taken(rt, hash_number, count, count % 128, blocks * 128 + left)?,
-            }
-        }
-    }
-    Ok(())
-}
-
-// A part of the pattern, taken by a state with words of its own.
-fn taken(
-    rt: &impl Print,
-    hash_number: u32,
-    count: usize,
-    from: usize,
-    end: usize,
-) -> io::Result<()> {
-    let bytes = messages::pattern();
-    if end <= messages::PATTERN {
-        if from <= end {
-            calls::piece(
-                rt,
-                made::own(made::hash_of(hash_number), count as u64),
-                &bytes[from..end],
-            )?;
+// A part of the pattern for each, taken by a state with words of its own.
+pub(crate) fn all(rt: &impl Print, hash: Hash) -> io::Result<()> {
+    let bytes: [u8; 385] = made::pattern(0);
+    for [count, blocks, left] in RUNS {
+        let (from, end) = match hash {
+            Hash::Sha256 => (count % 64, blocks * 64 + left),
+            Hash::Sha512 => (count % 128, blocks * 128 + left),
+        };
+        if let Some(part) = bytes.get(from..end) {
+            work::piece(rt, State::own(hash, count as u64), part)?;
         }
     }
     Ok(())

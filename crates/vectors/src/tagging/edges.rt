@@ -1,8 +1,10 @@
 // The edges that docs/PROTOCOL.md draws for HMAC: starts, keys, sound and unsound keyed states, the limit of bytes; and large
 // counts.
-use crate::tagging::{calls, inputs};
-use crate::{made, say};
-use algorithm::Hash;
+use crate::made::{self, Numbered};
+use crate::say::{self, Name};
+use crate::tagging::keyed;
+use crate::work::{self, Shown, Work};
+use algorithm::{Hash, MOST_BYTES};
 use hmac::Keyed;
 use std::io;
 
@@ -23,102 +25,80 @@ const LENGTHS: [usize; 13] = [
     18446744073709551615,
 ];
 
-// As many bytes as a tag of this length has, and at most 66, the largest buffer here.
-fn room_for(tag_length: usize) -> usize {
-    if tag_length < 66 { tag_length } else { 66 }
-}
-
 // A start for each number, and how what came back goes on.
 pub(crate) fn starts(rt: &impl Print) -> io::Result<()> {
-    for i in 0..5 {
-        start(rt, made::NUMBERS[i])?;
+    for number in made::NUMBERS {
+        print!(rt; "start for hash {number}: ")?;
+        let keyed = started(rt, number, b"Jefe", 32)?;
+        work::going_on(rt, keyed, 32)?;
+        in_one_call(rt, number)?;
+        print!(rt; "  for tags of length 1: ")?;
+        started(rt, number, b"Jefe", 1)?;
     }
-    Ok(())
-}
-
-fn start(rt: &impl Print, hash_number: u32) -> io::Result<()> {
-    say::text(rt, b"start for hash ")?;
-    say::number(rt, hash_number as u64)?;
-    say::text(rt, b": ")?;
-    let keyed = started(rt, hash_number, b"Jefe", 32)?;
-    going_on(rt, keyed, 32)?;
-    in_one_call(rt, hash_number)?;
-    say::text(rt, b"  for tags of length 1: ")?;
-    started(rt, hash_number, b"Jefe", 1)?;
     Ok(())
 }
 
 // What a start answers and hands back, in full.
-fn started(rt: &impl Print, hash_number: u32, key: &[u8], tag_length: usize) -> io::Result<Keyed> {
-    let keyed = calls::start(rt, hash_number, key, tag_length)?;
-    say::text(rt, b", ")?;
-    say::keyed(rt, keyed)?;
+fn started(rt: &impl Print, number: u32, key: &[u8], tag_length: usize) -> io::Result<Keyed> {
+    let started = hmac::start(number, key, tag_length);
+    let keyed = started.unwrap_or_default();
+    println!(rt; "{}, {}", algorithm::number(started), Shown(keyed))?;
     Ok(keyed)
 }
 
-fn in_one_call(rt: &impl Print, hash_number: u32) -> io::Result<()> {
-    say::text(rt, b"  tag_message of \"abc\": ")?;
-    calls::tag_message(rt, hash_number, b"Jefe", b"abc", 32, 32)?;
-    let presented = [0u8; 32];
-    say::text(rt, b"  verify_message of \"abc\" with zeros: ")?;
-    calls::verify_message(rt, hash_number, b"Jefe", b"abc", 32, &presented)
+fn in_one_call(rt: &impl Print, number: u32) -> io::Result<()> {
+    print!(rt; "  tag_message of \"abc\": ")?;
+    say::output(
+        rt,
+        32,
+        |out| hmac::tag_message(number, b"Jefe", b"abc", 32, out),
+    )?;
+    let verified = hmac::verify_message(number, b"Jefe", b"abc", 32, &[0; 32]);
+    println!(rt;
+        "  verify_message of \"abc\" with zeros: {}",
+        algorithm::number(verified)
+    )
 }
 
 // A start for each tag length, and how what came back goes on.
-pub(crate) fn lengths(rt: &impl Print, hash_number: u32) -> io::Result<()> {
-    for i in 0..13 {
-        length(rt, hash_number, LENGTHS[i])?;
+pub(crate) fn lengths(rt: &impl Print, of: Numbered) -> io::Result<()> {
+    for tag_length in LENGTHS {
+        print!(rt;
+            "start for hash {} and tags of length {tag_length}: ",
+            of.number
+        )?;
+        let keyed = started(rt, of.number, b"Jefe", tag_length)?;
+        work::going_on(rt, keyed, tag_length.min(66))?;
     }
     Ok(())
-}
-
-fn length(rt: &impl Print, hash_number: u32, tag_length: usize) -> io::Result<()> {
-    say::text(rt, b"start for hash ")?;
-    say::number(rt, hash_number as u64)?;
-    say::text(rt, b" and tags of length ")?;
-    say::number(rt, tag_length as u64)?;
-    say::text(rt, b": ")?;
-    let keyed = started(rt, hash_number, b"Jefe", tag_length)?;
-    going_on(rt, keyed, room_for(tag_length))
-}
-
-// What a keyed state answers, before and after a piece, for tags of so many bytes.
-fn going_on(rt: &impl Print, keyed: Keyed, size: usize) -> io::Result<()> {
-    say::soundness(rt, hmac::sound(keyed))?;
-    calls::tags(rt, keyed, size)?;
-    let next = calls::update(rt, keyed, b"abc")?;
-    calls::tags(rt, next, size)
 }
 
 const KEYS: [usize; 9] = [0, 1, 63, 64, 65, 127, 128, 129, 300];
 
 // Keys of lengths around a block's.
-pub(crate) fn keys(rt: &impl Print, hash_number: u32) -> io::Result<()> {
-    for i in 0..9 {
-        key_of(rt, hash_number, KEYS[i])?;
+pub(crate) fn keys(rt: &impl Print, of: Numbered) -> io::Result<()> {
+    let bytes: [u8; 300] = made::pattern(1);
+    for length in KEYS {
+        under(rt, of, &bytes[..length])?;
     }
     Ok(())
 }
 
-fn key_of(rt: &impl Print, hash_number: u32, n: usize) -> io::Result<()> {
-    let bytes = inputs::pattern();
-    if n <= 300 {
-        under(rt, hash_number, &bytes[0..n])?;
-    }
-    Ok(())
-}
-
-fn under(rt: &impl Print, hash_number: u32, key: &[u8]) -> io::Result<()> {
-    let hash = made::hash_of(hash_number);
-    let size = algorithm::digest_size(hash);
-    say::hmac(rt, hash)?;
-    say::text(rt, b" of \"abc\" under a key of length ")?;
-    say::number(rt, key.len() as u64)?;
-    say::text(rt, b": ")?;
-    calls::tag_message(rt, hash_number, key, b"abc", size, size)?;
-    say::text(rt, b"  start: ")?;
-    let keyed = started(rt, hash_number, key, size)?;
-    going_on(rt, keyed, size)
+fn under(rt: &impl Print, of: Numbered, key: &[u8]) -> io::Result<()> {
+    let size = algorithm::digest_size(of.hash);
+    print!(rt;
+        "HMAC-{} of \"abc\" under a key of length {}: ",
+        Name(of.hash),
+        key.len()
+    )?;
+    say::output(
+        rt,
+        size,
+        |out| hmac::tag_message(of.number, key, b"abc", size, out),
+    )?;
+    print!(rt; "  start: ")?;
+    let keyed = started(rt, of.number, key, size)?;
+    work::going_on(rt, keyed, size)
 }
 
 // Keyed states that differ from zeros in the count, in one waiting byte (none at place 128), in the last word and in the last outer
@@ -147,110 +127,57 @@ const STATES: [[u64; 4]; 27] = [
     [128, 128, 0, 18446744073709551615],
     [4294967295, 128, 0, 0],
     [4294967296, 128, 0, 0],
-    [algorithm::MOST_BYTES - 1, 128, 0, 0],
-    [algorithm::MOST_BYTES, 128, 0, 0],
-    [algorithm::MOST_BYTES + 1, 128, 0, 0],
+    [MOST_BYTES - 1, 128, 0, 0],
+    [MOST_BYTES, 128, 0, 0],
+    [MOST_BYTES + 1, 128, 0, 0],
     [18446744073709551615, 128, 0, 0],
 ];
 
-pub(crate) fn states(rt: &impl Print, hash_number: u32) -> io::Result<()> {
-    let hash = made::hash_of(hash_number);
-    for i in 0..27 {
-        state(rt, hash, STATES[i])?;
+pub(crate) fn states(rt: &impl Print, hash: Hash) -> io::Result<()> {
+    for [count, place, word, outer] in STATES {
+        let inner = made::nearly_zero(hash, count, place as usize, word);
+        let size = algorithm::digest_size(hash);
+        let keyed = made::keyed(inner, size, [0, 0, 0, 0, 0, 0, 0, outer]);
+        println!(rt; "{}", Shown(keyed))?;
+        work::going_on(rt, keyed, size)?;
     }
     Ok(())
 }
 
-fn state(rt: &impl Print, hash: Hash, row: [u64; 4]) -> io::Result<()> {
-    let size = algorithm::digest_size(hash);
-    let inner = made::nearly_zero(hash, row[0], row[1] as usize, row[2]);
-    let keyed = made::keyed(inner, size, [0, 0, 0, 0, 0, 0, 0, row[3]]);
-    say::keyed(rt, keyed)?;
-    going_on(rt, keyed, size)
-}
-
-// A keyed state that no call made, with outer words of its own, 9 to 16.
-fn own(hash: Hash, count: u64, tag_length: usize) -> Keyed {
-    made::keyed(
-        made::own(hash, count),
-        tag_length,
-        [9, 10, 11, 12, 13, 14, 15, 16],
-    )
-}
-
-// Such states with each tag length, sound where it is in range.
-pub(crate) fn state_lengths(rt: &impl Print, hash_number: u32) -> io::Result<()> {
-    let hash = made::hash_of(hash_number);
-    for i in 0..13 {
-        state_length(rt, hash, LENGTHS[i])?;
+// States that no call made with each tag length, sound where it is in range.
+pub(crate) fn state_lengths(rt: &impl Print, hash: Hash) -> io::Result<()> {
+    for tag_length in LENGTHS {
+        let keyed = Keyed {
+            tag_length,
+            ..Keyed::own(hash, 200)
+        };
+        println!(rt; "{}", Shown(keyed))?;
+        work::going_on(rt, keyed, tag_length.min(66))?;
     }
     Ok(())
-}
-
-fn state_length(rt: &impl Print, hash: Hash, tag_length: usize) -> io::Result<()> {
-    let keyed = own(hash, 200, tag_length);
-    say::keyed(rt, keyed)?;
-    going_on(rt, keyed, room_for(tag_length))
-}
-
-// One byte before the most that may be hashed. With a tag length that is out of range, the state is refused before the bytes are.
-pub(crate) fn limit(rt: &impl Print, hash_number: u32) -> io::Result<()> {
-    let hash = made::hash_of(hash_number);
-    let size = algorithm::digest_size(hash);
-    let k0 = own(hash, algorithm::MOST_BYTES - 1, size);
-    say::keyed(rt, k0)?;
-    let k1 = calls::update(rt, k0, b"ab")?;
-    let k2 = calls::update(rt, k1, b"a")?;
-    say::keyed(rt, k2)?;
-    calls::tags(rt, k2, size)?;
-    let k3 = calls::update(rt, k2, b"a")?;
-    let k4 = calls::update(rt, k3, b"")?;
-    calls::tags(rt, k4, size)?;
-    let k5 = inputs::with_length(k4, 1);
-    say::keyed(rt, k5)?;
-    let k6 = calls::update(rt, k5, b"a")?;
-    calls::tags(rt, k6, size)?;
-    onto_limit(rt, hash, size)
 }
 
 // Several blocks that end at the limit, and one byte past it: after bytes that wait, then where a block ends.
-fn onto_limit(rt: &impl Print, hash: Hash, size: usize) -> io::Result<()> {
-    of_pattern(rt, own(hash, algorithm::MOST_BYTES - 300, size), 300)?;
-    of_pattern(rt, own(hash, algorithm::MOST_BYTES - 299, size), 300)?;
-    of_pattern(rt, own(hash, algorithm::MOST_BYTES - 255, size), 255)?;
-    of_pattern(rt, own(hash, algorithm::MOST_BYTES - 255, size), 256)
+const ONTO_LIMIT: [(u64, usize); 4] = [
+    (MOST_BYTES - 300, 300),
+    (MOST_BYTES - 299, 300),
+    (MOST_BYTES - 255, 255),
+    (MOST_BYTES - 255, 256),
+];
+
+// With a tag length that is out of range, the state is refused before the bytes are.
+pub(crate) fn limit(rt: &impl Print, hash: Hash) -> io::Result<()> {
+    let full = work::limit::<Keyed, _>(rt, hash)?;
+    let unsound = Keyed {
+        tag_length: 1,
+        ..full
+    };
+    println!(rt; "{}", Shown(unsound))?;
+    let next = work::update(rt, unsound, b"a")?;
+    next.end(rt, algorithm::digest_size(hash))?;
+    work::onto_limit::<Keyed, _>(rt, hash, &made::pattern::<300>(1), ONTO_LIMIT)
 }
 
-// A piece of so many bytes of the pattern.
-fn of_pattern(rt: &impl Print, keyed: Keyed, size: usize) -> io::Result<()> {
-    let bytes = inputs::pattern();
-    if size <= 300 {
-        piece(rt, keyed, &bytes[0..size])?;
-    }
-    Ok(())
-}
-
-// One byte, and several blocks, after each large count.
-pub(crate) fn large_counts(rt: &impl Print, hash_number: u32) -> io::Result<()> {
-    let hash = made::hash_of(hash_number);
-    for i in 0..5 {
-        large_count(
-            rt,
-            own(hash, made::LARGE_COUNTS[i], algorithm::digest_size(hash)),
-        )?;
-    }
-    Ok(())
-}
-
-fn large_count(rt: &impl Print, keyed: Keyed) -> io::Result<()> {
-    piece(rt, keyed, b"a")?;
-    of_pattern(rt, keyed, 300)
-}
-
-// A piece between the keyed states before and after it, and the tags that it leads to.
-fn piece(rt: &impl Print, keyed: Keyed, bytes: &[u8]) -> io::Result<()> {
-    say::keyed(rt, keyed)?;
-    let next = calls::update(rt, keyed, bytes)?;
-    say::keyed(rt, next)?;
-    calls::tags(rt, next, keyed.tag_length)
+pub(crate) fn large_counts(rt: &impl Print, hash: Hash) -> io::Result<()> {
+    work::large_counts::<Keyed, _>(rt, hash, &made::pattern::<300>(1))
 }

@@ -11,9 +11,8 @@ use Rattle.hash.specs.State.Laws.{fresh_held, zero_held}
 use Rattle.algorithm.specs.Checks.{Fail, Pass, written}
 use Rattle.algorithm.specs.Checks.Refusing.{none}
 use Rattle.algorithm.specs.Checks.Laws.{exactly, exactly_done, refuses, refused_given}
-use Rattle.hash.specs.Calls.{started, fed, start_checks, update_checks, finish_checks, digest_checks, start_of, update_of, finish_of, digest_answer}
+use Rattle.hash.specs.Calls.{Started, started, fed, start_checks, update_checks, finish_checks, digest_checks, start_of, update_of, finish_of, digest_answer}
 use Rattle.hash.specs.declared.state.State.{State}
-use Rattle.hash.specs.declared.state.Started.{Started}
 
 module _ (n : ℕ) where
   pub start_accepted : names n ≡ true → start_of n ≡ started done (fresh_of (hash_of n))

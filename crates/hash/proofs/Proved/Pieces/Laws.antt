@@ -1,24 +1,25 @@
 -- Proved: laws of a run of pieces: refused ones change nothing, and from a start it ends as the one-piece digest of the bytes taken.
 -- Assumes nothing.
-use Rattle.std.specs.Prelude.{◌≡◌, ℕ, ◌+◌, ◌≤◌, Bool, true, false, cond, List, [], ◌∷◌, ◌++◌, length, ◌==◌, ◌≢◌, refl}
+use Rattle.std.specs.Prelude.{◌≡◌, ℕ, ◌+◌, ◌≤◌, true, cond, List, [], ◌∷◌, ◌++◌, length, drop, ◌==◌, ◌≢◌}
 use Rattle.std.proofs.Common.{sym, ◌∙◌, zero-add, arith}
 use Rattle.std.proofs.Math.Path.{ap}
 use mathlib.Core.List.{append-nil}
 use Rattle.std.proofs.Math.Decide.{ℕ_discrete, dec_le}
 use Rattle.algorithm.specs.declared.hashes.Hash.{Hash}
 use Rattle.algorithm.specs.Hashes.{names, hash_of, size_of}
-use Rattle.algorithm.specs.Refusals.{done, unknown_hash, most_bytes}
+use Rattle.algorithm.specs.Refusals.{done, most_bytes}
+use Rattle.hash.specs.Digest.{digest_of}
 use Rattle.hash.specs.State.{sound_of, Held, fresh_of, after_of, end_of}
 use Rattle.hash.specs.State.Laws.{after_nothing, after_append, after_held, after_hash, after_count, fresh_hash, fresh_count, sound_count, end_fresh}
-use Rattle.hash.specs.Calls.{start_of, update_of, finish_of, digest_answer}
-use Rattle.algorithm.specs.Checks.{written}
-use Rattle.hash.proofs.Proved.Calls.Laws.{start_accepted, start_refused, start_held, update_accepted, update_too_long, finish_accepted, finish_wrong_size, digest_unknown, digest_too_long, digest_accepted, digest_wrong_size}
+use Rattle.hash.specs.Calls.{Started, Fed, started, fed, start_checks, digest_checks, start_of, update_of, finish_of, digest_answer}
+use Rattle.algorithm.specs.Checks.{first_failing, written}
+use Rattle.algorithm.specs.Checks.Pass.{and}
+use Rattle.algorithm.specs.Checks.Laws.{append_refuses, answered_refused}
+use Rattle.hash.proofs.Proved.Calls.Laws.{start_accepted, start_done, start_held, update_accepted, update_too_long, finish_accepted, finish_wrong_size, digest_too_long, digest_accepted, digest_wrong_size}
 use Rattle.algorithm.specs.Pieces.{Taking, after_all, taken_of, Cut}
 use Rattle.algorithm.specs.Pieces.Laws.{after_all_lem, all_held, cut_taken}
 use Rattle.hash.specs.Pieces.{given, work}
 use Rattle.hash.specs.declared.state.State.{State}
-use Rattle.hash.specs.declared.state.Started.{Started}
-use Rattle.hash.specs.declared.state.Fed.{Fed}
 
 -- what the laws of a run need to know of a state
 pub taking : Taking work
@@ -67,41 +68,38 @@ cut_digest n named {ps} cut out =
     let none : (start_of n).state.count ≡ 0 = ap (λ (r : Started). r.state.count) (start_accepted n named) ∙ fresh_count (hash_of n) in
     pieces_finish n ps out named ∙ ap (λ (l : List ℕ). digest_answer n l out) (cut_taken taking cut (start_of n).state (start_held n) none)
 
--- a message in one piece, by a start, a piece and the end: what the first refusal leaves, and what the end answers
+-- a message in one piece, by a start, a piece and the end, as each answers: what the first refusal leaves, and what the end answers
 module _ (n : ℕ) (m out : List ℕ) where
-  pub start_refuses : ((start_of n).number ≢ done) → written (start_of n).number out ≡ digest_answer n m out
-  start_refuses z = by_case (names n) refl
-    where
-      by_case : (b : Bool) → names n ≡ b → written (start_of n).number out ≡ digest_answer n m out
-      by_case true h = absurd (z (ap (λ (r : Started). r.number) (start_accepted n h)))
-      by_case false h = ap (λ (r : Started). written r.number out) (start_refused n h) ∙ sym (digest_unknown n m out h)
+  pub start_refuses : {k : ℕ} {s : State} → (k ≢ done) → started k s ≡ start_of n → written k out ≡ digest_answer n m out
+  unfolding start_of digest_answer
+  start_refuses {k} z e =
+      let f : k ≡ first_failing (start_checks n) = ap (λ (r : Started). r.number) e in
+      let first = append_refuses (start_checks n) (drop 1 (digest_checks n m out)) (λ d. z (f ∙ d)) in
+      sym (answered_refused (digest_checks n m out) (digest_of (hash_of n) m) out k (first ∙ sym f) z)
 
-  started_names : (start_of n).number ≡ done → names n ≡ true
-  started_names z = by_case (names n) refl
-    where
-      by_case : (b : Bool) → names n ≡ b → names n ≡ true
-      by_case true h = h
-      by_case false h = let e : ◌≡◌ {A = ℕ} unknown_hash done = sym (ap (λ (r : Started). r.number) (start_refused n h)) ∙ z in absurd (omega arith)
+  module _ {s : State} (e : started done s ≡ start_of n) where
+    named : names n ≡ true
+    named = elim ((start_done n).0 (sym (ap (λ (r : Started). r.number) e))) [ and h p ↦ h ]
 
-  pub piece_refuses : (start_of n).number ≡ done → ((update_of (start_of n).state m).number ≢ done)
-      → written (update_of (start_of n).state m).number out ≡ digest_answer n m out
-  piece_refuses z r =
-      let s : State = (start_of n).state in
-      let named : names n ≡ true = started_names z in
-      let sound : sound_of s ≡ true = (start_held n).sound in
-      let none : s.count ≡ 0 = ap (λ (t : Started). t.state.count) (start_accepted n named) ∙ fresh_count (hash_of n) in
-      elim (dec_le (s.count + length m) most_bytes) [
-        | yes l ↦ absurd (r (ap (λ (t : Fed). t.number) (update_accepted s m sound l)))
-        | no l ↦
-            ap (λ (t : Fed). written t.number out) (update_too_long s m sound (omega arith))
-            ∙ sym (digest_too_long n m out named (omega arith))
-      ]
+    began : s ≡ (start_of n).state
+    began = ap (λ (r : Started). r.state) e
 
-  pub end_answers : (start_of n).number ≡ done → (update_of (start_of n).state m).number ≡ done
-      → finish_of (update_of (start_of n).state m).state out ≡ digest_answer n m out
-  unfolding after_all taken_of
-  end_answers z u =
-      let t : cond ((update_of (start_of n).state m).number == done) m [] ++ [] ≡ m =
-      ap (λ (k : ℕ). cond (k == done) m [] ++ []) u ∙ append-nil m
-      in
-      pieces_finish n (m ∷ []) out (started_names z) ∙ ap (λ (l : List ℕ). digest_answer n l out) t
+    pub piece_refuses : {k : ℕ} {t : State} → (k ≢ done) → fed k t ≡ update_of s m → written k out ≡ digest_answer n m out
+    piece_refuses z u =
+        let sound : sound_of s ≡ true = rw began (start_held n).sound in
+        let none : s.count ≡ 0 = ap (λ (r : Started). r.state.count) (e ∙ start_accepted n named) ∙ fresh_count (hash_of n) in
+        elim (dec_le (s.count + length m) most_bytes) [
+          | yes l ↦ absurd (z (ap (λ (r : Fed). r.number) (u ∙ update_accepted s m sound l)))
+          | no l ↦
+              ap (λ (r : Fed). written r.number out) (u ∙ update_too_long s m sound (omega arith))
+              ∙ sym (digest_too_long n m out named (omega arith))
+        ]
+
+    pub end_answers : {t : State} → fed done t ≡ update_of s m → finish_of t out ≡ digest_answer n m out
+    unfolding after_all taken_of
+    end_answers {t} u =
+        let g : fed done t ≡ update_of (start_of n).state m = rw began at u in
+        let all : cond ((update_of (start_of n).state m).number == done) m [] ++ [] ≡ m =
+        ap (λ (r : Fed). cond (r.number == done) m [] ++ []) (sym g) ∙ append-nil m
+        in
+        ap (λ (r : Fed). finish_of r.state out) g ∙ pieces_finish n (m ∷ []) out named ∙ ap (λ (l : List ℕ). digest_answer n l out) all

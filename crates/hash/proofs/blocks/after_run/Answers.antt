@@ -1,33 +1,51 @@
 -- `hash::blocks::after_run` goes by the width. Assumes nothing.
-use Rattle.std.proofs.Common.{◌∙◌}
-use Rattle.hash.specs.Description.{narrow, core_of}
-use Rattle.hash.specs.Blocks.{words_after}
+use Rattle.std.proofs.Common.{◌≡◌, ℕ, List, map, ap, ◌∙◌, lit<}
+use mathlib.Core.List.{foldl}
+use Rattle.algorithm.specs.declared.hashes.Hash.{Hash}
+use Rattle.algorithm.specs.Hashes.{block_of}
+use Rattle.hash.specs.Run.{Run}
+use Rattle.hash.specs.Description.{Core, describe, narrow, wide, core_of}
+use Rattle.hash.specs.Blocks.{whole_blocks, words_after}
+use Rattle.hash.specs.Sha2.{block_size, step}
+use Rattle.hash.specs.State.{words_of}
 use Rattle.hash.specs.Digest.Laws.{described}
+use Rattle.hash.proofs.Rounds.{themselves}
 use Rattle.hash.proofs.blocks.after_run.Goals as goal
 
-pub narrowed-start-requires : goal.narrowed-start-requires
+-- a hash that works on a core: its runs are the core's, and so are the words after them
+module _ (h : Hash) (C : Core) (e : (describe h).core ≡ C) (run : List ℕ) where
+  run_by : Run (block_of h) run → Run (block_size C) run
+  run_by r = rw (← (described h).block_is, e) at r
+
+  words_by : (v ws : List ℕ) → map (λ (x : ℕ). x) v ≡ foldl (step C) (map (λ (x : ℕ). x) ws) (whole_blocks (block_size C) run)
+      → v ≡ words_of h ws run
+  unfolding words_after
+  words_by v ws f = rw (← (described h).block_is, e) (themselves C v ws run f)
+
+pub narrowed-requires : goal.narrowed-requires
 unfolding core_of narrow
-narrowed-start-requires c = rw (c.width_of-width.ensures, c.in-Narrow.is) at c.requires.0
-
-pub after_run-end-requires : goal.after_run-end-requires
-unfolding core_of
-after_run-end-requires c =
-    (rw (← (described c.args.hash).block_is, c.width_of-width.ensures, c.in-Narrow.is) at c.requires.1, c.requires.2)
-
-pub returns-in-Narrow : goal.returns-in-Narrow
-unfolding core_of words_after
-returns-in-Narrow c =
-    let hash = c.args.hash in
-    rw (← (described hash).block_is, c.width_of-width.ensures, c.in-Narrow.is, ← c.narrowed-start.ensures)
-    (c.widened.ensures ∙ c.after_run-end.ensures)
+narrowed-requires c = rw (c.width_of.ensures, c.in-Narrow.is) at c.requires.0
 
 pub after_run-requires : goal.after_run-requires
 unfolding core_of
 after_run-requires c =
-    (rw (← (described c.args.hash).block_is, c.width_of-width.ensures, c.in-Wide.is) at c.requires.1, c.requires.2)
+    (lit< tt, run_by c.args.hash narrow (c.width_of.ensures ∙ ap core_of c.in-Narrow.is) c.args.run.now c.requires.1)
+
+pub returns-in-Narrow : goal.returns-in-Narrow
+unfolding core_of
+returns-in-Narrow c =
+    let e = c.width_of.ensures ∙ ap core_of c.in-Narrow.is in
+    c.widened.ensures
+    ∙ words_by c.args.hash narrow e c.args.run.now c.after_run.result c.narrowed.result c.after_run.ensures
+    ∙ ap (λ (ws : List ℕ). words_of c.args.hash ws c.args.run.now) c.narrowed.ensures
+
+pub after_run-requires-in-Wide : goal.after_run-requires-in-Wide
+unfolding core_of
+after_run-requires-in-Wide c =
+    (lit< tt, run_by c.args.hash wide (c.width_of.ensures ∙ ap core_of c.in-Wide.is) c.args.run.now c.requires.1)
 
 pub returns-in-Wide : goal.returns-in-Wide
-unfolding core_of words_after
+unfolding core_of
 returns-in-Wide c =
-    let hash = c.args.hash in
-    rw (← (described hash).block_is, c.width_of-width.ensures, c.in-Wide.is) c.after_run.ensures
+    let e = c.width_of.ensures ∙ ap core_of c.in-Wide.is in
+    words_by c.args.hash wide e c.args.run.now c.after_run-in-Wide.result c.args.words c.after_run-in-Wide.ensures

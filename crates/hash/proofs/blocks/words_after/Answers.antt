@@ -1,27 +1,18 @@
 -- `hash::blocks::words_after` takes one run a turn. Assumes nothing.
-use Rattle.std.proofs.Common.{◌≡◌, ◌+◌, sym, refl, ap, ◌∙◌, add-one, arith, rules}
+use Rattle.std.proofs.Common.{◌≡◌, ◌+◌, sym, refl, ap, ◌∙◌, add-one, arith}
 use Rattle.hash.specs.State.{words_of}
 use Rattle.hash.specs.State.Laws.{words_fit}
 use Rattle.hash.proofs.TwoRuns.{run_at, words_at, run_at_lem}
 use Rattle.hash.proofs.blocks.words_after.Goals as goal
 
-pub table-k-requires : goal.table-k-requires
-table-k-requires c = search rules
-
 pub loop-init : goal.loop-init
 unfolding words_at run_at
-loop-init c = (search rules, c.requires.0, refl, refl)
+loop-init c = (c.requires.0, refl, refl)
 
 pub after_run-n-requires : goal.after_run-n-requires
 after_run-n-requires c =
-    let inv = c.loop.invariant in
-    (inv.1, rw inv.3 (run_at_lem c.args.hash c.args.first.now c.args.second.now c.loop.counter c.requires.1 c.requires.2), c.table-k.ensures)
-
-pub overflow_step : goal.overflow_step
-overflow_step c = search rules
-
-pub loop-smaller : goal.loop-smaller
-loop-smaller c = search rules
+    let before = c.loop.invariant in
+    (before.0, rw before.2 (run_at_lem c.args.hash c.args.first.now c.args.second.now c.loop.counter c.requires.1 c.requires.2))
 
 pub loop-preserved : goal.loop-preserved
 unfolding words_at run_at
@@ -31,13 +22,12 @@ loop-preserved c =
     let second = c.args.second.now in
     let loop = c.loop in
     let e : words_of h loop.v loop.run.now ≡ words_at h c.args.words first second (loop.counter + 1) =
-    (λ i. words_of h (loop.invariant.2 i) (loop.invariant.3 i)) ∙ ap (words_at h c.args.words first second) (sym (add-one loop.counter))
+    (λ i. words_of h (loop.invariant.1 i) (loop.invariant.2 i)) ∙ ap (words_at h c.args.words first second) (sym (add-one loop.counter))
     in
-    (search rules, rw c.after_run-n.ensures (words_fit h loop.v loop.run.now loop.invariant.1), c.after_run-n.ensures ∙ e, ap (run_at first second) (sym (add-one loop.counter)))
+    (rw c.after_run-n.ensures (words_fit h loop.v loop.run.now loop.invariant.0), c.after_run-n.ensures ∙ e, ap (run_at first second) (sym (add-one loop.counter)))
 
 pub returns : goal.returns
 unfolding words_at run_at
 returns c =
-    let loop = c.loop in
-    let two : loop.counter ≡ 2 = omega arith in
-    loop.invariant.2 ∙ ap (words_at c.args.hash c.args.words c.args.first.now c.args.second.now) two
+    let two : c.loop.counter ≡ 2 = omega arith in
+    c.loop.invariant.1 ∙ ap (words_at c.args.hash c.args.words c.args.first.now c.args.second.now) two

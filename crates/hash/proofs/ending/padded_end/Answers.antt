@@ -1,6 +1,5 @@
 -- `hash::ending::padded_end`: one block where the length still fits it, else two. Assumes nothing.
 use Rattle.std.proofs.Common.{arith}
-use Rattle.algorithm.specs.Hashes.Laws.{block_most}
 use Rattle.hash.specs.Description.{describe}
 use Rattle.hash.specs.Sha2.{block_size, field_size}
 use Rattle.hash.specs.Digest.Laws.{described}
@@ -18,9 +17,3 @@ unfolding block_size field_size
 returns c =
     let d = described c.args.hash in
     rw c.word_size-word.ensures.0 (end_two (describe c.args.hash).core d.word_least c.args.at (omega arith) (omega arith))
-
-pub overflow_add-at : goal.overflow_add-at
-overflow_add-at c = omega (arith, block_most c.args.hash)
-
-pub overflow_add-at-2 : goal.overflow_add-at-2
-overflow_add-at-2 c = omega (arith, block_most c.args.hash)

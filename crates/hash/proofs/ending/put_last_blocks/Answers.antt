@@ -9,7 +9,7 @@ pub returns : goal.returns
 returns c =
     let end = c.args.end in
     let front = c.args.waiting.now in
-    let field = c.eight_bytes-field in
+    let field = c.eight_bytes in
     let begun = c.put_at in
     let size = c.put_at-2.auto.out ∙ length-set begun.new.out (length front) 128 ∙ begun.auto.out ∙ ap length c.requires.0 in
     let is =

@@ -5,8 +5,8 @@ use Rattle.hash.proofs.ending.word_size.Goals as goal
 
 pub returns-in-Narrow : goal.returns-in-Narrow
 unfolding core_of narrow
-returns-in-Narrow c = (rw (c.width_of-width.ensures, c.in-Narrow.is), omega arith)
+returns-in-Narrow c = (rw (c.width_of.ensures, c.in-Narrow.is), omega arith)
 
 pub returns-in-Wide : goal.returns-in-Wide
 unfolding core_of wide
-returns-in-Wide c = (rw (c.width_of-width.ensures, c.in-Wide.is), omega arith)
+returns-in-Wide c = (rw (c.width_of.ensures, c.in-Wide.is), omega arith)

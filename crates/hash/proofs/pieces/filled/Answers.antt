@@ -7,50 +7,14 @@ use Rattle.hash.specs.Blocks.Laws.{run_block}
 use Rattle.hash.specs.State.Open.{filled_after}
 use Rattle.hash.proofs.pieces.filled.Goals as goal
 
-pub slice_bounds-put_at-end-2 : goal.slice_bounds-put_at-end-2
-slice_bounds-put_at-end-2 c =
-    sym (length-take-le c.args.room c.args.piece.now c.requires.within)
-
-pub put_at-requires : goal.put_at-requires
-put_at-requires c =
-    let s = c.args.state in
-    let w : length s.waiting ≡ 128 = c.well_formed.0.1.1.1.1.1.0.1.0.1 in
-    let l = length-take-le c.args.room c.args.piece.now c.requires.within in
-    omega (arith, block_most s.hash, c.requires.fills)
-
-pub overflow_add-end : goal.overflow_add-end
-overflow_add-end c =
-    omega (arith, block_most c.args.state.hash, c.requires.fills)
-
-pub slice_bounds-block-end : goal.slice_bounds-block-end
-slice_bounds-block-end c =
-    let s = c.args.state in
-    let w : length s.waiting ≡ 128 = c.well_formed.0.1.1.1.1.1.0.1.0.1 in
-    omega (arith, block_most s.hash, c.requires.fills, c.put_at.auto.out)
-
-pub slice_bounds-onward-end : goal.slice_bounds-onward-end
-slice_bounds-onward-end c =
-    let s = c.args.state in
-    let w : length s.waiting ≡ 128 = c.well_formed.0.1.1.1.1.1.0.1.0.1 in
-    sym (length-take-le _ _ (omega (arith, block_most s.hash, c.requires.fills, c.put_at.auto.out)))
-
-pub onward-requires : goal.onward-requires
-onward-requires c =
-    let s = c.args.state in
-    let block = c.put_at in
-    let w : length s.waiting ≡ 128 = c.well_formed.0.1.1.1.1.1.0.1.0.1 in
-    let l = length-take-le (c.args.at + c.args.room) block.new.out (omega (arith, block_most s.hash, c.requires.fills, block.auto.out)) in
-    (c.requires.words, run_block (block_of s.hash) (take (c.args.at + c.args.room) block.new.out) (l ∙ c.requires.fills))
-
 pub returns : goal.returns
 returns c =
-    let s = c.args.state in
+    let s = c.args.state.now in
     let at = c.args.at in
     let room = c.args.room in
     let piece = c.args.piece.now in
     let put = c.put_at in
     let block = take (at + room) put.new.out in
-    let w : length s.waiting ≡ 128 = c.well_formed.0.1.1.1.1.1.0.1.0.1 in
     let l = length-take-le room piece c.requires.within in
     let fits : at + length (take room piece) ≤ length s.waiting = omega (arith, block_most s.hash, c.requires.fills) in
     let e : block ≡ take at s.waiting ++ take room piece =

@@ -1,7 +1,7 @@
 -- `hash::pieces::taken`: a piece fills a block or it does not. Assumes nothing.
-use Rattle.std.proofs.Common.{◌≡◌, ℕ, ◌+◌, List, length, sym, ap, ◌∙◌, arith}
+use Rattle.std.proofs.Common.{ℕ, ◌+◌, List, length, sym, ap, ◌∙◌, arith}
 use Rattle.algorithm.specs.Hashes.{block_of}
-use Rattle.algorithm.specs.Hashes.Laws.{block_most, block_positive}
+use Rattle.algorithm.specs.Hashes.Laws.{block_positive}
 use Rattle.hash.specs.Description.{describe}
 use Rattle.hash.specs.Blocks.Laws.{run_none, words_none}
 use Rattle.hash.specs.Sha2.{step}
@@ -10,27 +10,21 @@ use Rattle.hash.specs.State.Laws.{waiting_less, sound_words}
 use Rattle.hash.specs.State.Open.{appended_after, straight_after}
 use Rattle.hash.proofs.pieces.taken.Goals as goal
 
-pub appended-requires : goal.appended-requires
-appended-requires c =
-    let s = c.args.state in
-    omega (arith, c.waiting_count-at.ensures, c.block_size-size.ensures, waiting_less s, block_most s.hash, c.requires.fits)
-
 pub returns-then-piece-room : goal.returns-then-piece-room
 returns-then-piece-room c =
-    let s = c.args.state in
+    let s = c.args.state.now in
     let waits = c.waiting_count-at.ensures in
-    let w : length s.waiting ≡ 128 = c.well_formed.0.1.1.1.1.1.0.1.0.1 in
     c.appended.ensures
     ∙ rw waits
-    (appended_after s c.args.piece.now w c.requires.sound (omega (arith, waits, c.block_size-size.ensures, waiting_less s)))
+    (appended_after s c.args.piece.now (omega arith) c.requires.sound (omega (arith, waits, c.block_size.ensures, waiting_less s)))
 
 pub onward-requires : goal.onward-requires
 onward-requires c =
-    (sound_words c.args.state c.requires.sound, run_none (block_of c.args.state.hash))
+    (sound_words c.args.state.now c.requires.sound, run_none (block_of c.args.state.now.hash))
 
 pub returns-then-at-eq0 : goal.returns-then-at-eq0
 returns-then-at-eq0 c =
-    let s = c.args.state in
+    let s = c.args.state.now in
     let piece = c.args.piece.now in
     c.onward.ensures
     ∙ ap (λ (ws : List ℕ). onward_of s.hash ws (s.count + length piece) piece)
@@ -39,8 +33,8 @@ returns-then-at-eq0 c =
 
 pub filled-requires : goal.filled-requires
 filled-requires c =
-    let s = c.args.state in
+    let s = c.args.state.now in
     let a = c.waiting_count-at.ensures in
-    let b = c.block_size-size.ensures in
+    let b = c.block_size.ensures in
     let l = waiting_less s in
     record { waits = a; fills = omega arith; within = omega arith; fits = c.requires.fits; words = sound_words s c.requires.sound }

@@ -1,36 +1,24 @@
 -- `hash::pieces::update`: its checks in their order, then the state after the piece. Assumes nothing.
-use Rattle.std.proofs.Common.{◌≡◌, true, sym, ap, ◌∙◌, arith}
-use Rattle.algorithm.specs.Refusals.{done}
-use Rattle.hash.specs.State.{sound_of}
+use Rattle.std.proofs.Common.{sym, arith}
 use Rattle.hash.specs.State.Laws.{sound_count}
-use Rattle.hash.specs.Calls.{fed}
 use Rattle.hash.proofs.Proved.Calls.Laws.{update_not_sound, update_too_long, update_accepted}
 use Rattle.hash.proofs.pieces.update.Goals as goal
 
-pub returns-then-not-ok : goal.returns-then-not-ok
-returns-then-not-ok c =
-    sym (update_not_sound c.args.state c.args.piece.now (sym c.sound-ok.ensures ∙ c.if-not-ok.true))
+pub returns-then-not-is_sound : goal.returns-then-not-is_sound
+returns-then-not-is_sound c = sym (update_not_sound c.args.state.now c.args.piece.now (sym c.if-not-is_sound.ensures))
 
-pub overflow_sub-count : goal.overflow_sub-count
-overflow_sub-count c = sound_count c.args.state (sym c.sound-ok.ensures ∙ c.if-not-ok.false)
+pub overflow_sub-state : goal.overflow_sub-state
+overflow_sub-state c = sound_count c.args.state.now (sym c.if-not-is_sound.ensures)
 
-pub returns-then-count-piece : goal.returns-then-count-piece
-returns-then-count-piece c =
-    let s = c.args.state in
-    let ok : sound_of s ≡ true = sym c.sound-ok.ensures ∙ c.if-not-ok.false in
-    let m = sound_count s ok in
-    sym (update_too_long s c.args.piece.now ok (omega arith))
+pub returns-then-state-piece : goal.returns-then-state-piece
+returns-then-state-piece c = sym (update_too_long c.args.state.now c.args.piece.now (sym c.if-not-is_sound.ensures) (omega arith))
 
-pub taken-next-requires : goal.taken-next-requires
-taken-next-requires c =
-    let s = c.args.state in
-    let ok : sound_of s ≡ true = sym c.sound-ok.ensures ∙ c.if-not-ok.false in
-    let m = sound_count s ok in
-    record { sound = ok; fits = omega arith }
+pub taken-requires : goal.taken-requires
+taken-requires c =
+    let m = sound_count c.args.state.now (sym c.if-not-is_sound.ensures) in
+    record { sound = sym c.if-not-is_sound.ensures; fits = omega arith }
 
 pub returns : goal.returns
 returns c =
-    let s = c.args.state in
-    let ok : sound_of s ≡ true = sym c.sound-ok.ensures ∙ c.if-not-ok.false in
-    let m = sound_count s ok in
-    ap (fed done) c.taken-next.ensures ∙ sym (update_accepted s c.args.piece.now ok (omega arith))
+    let m = sound_count c.args.state.now (sym c.if-not-is_sound.ensures) in
+    rw c.taken.ensures (sym (update_accepted c.args.state.now c.args.piece.now (sym c.if-not-is_sound.ensures) (omega arith)))

@@ -5,11 +5,11 @@ use Rattle.hash.proofs.soundness.words_fit.Goals as goal
 
 pub returns-in-Narrow : goal.returns-in-Narrow
 unfolding core_of narrow
-returns-in-Narrow c = rw (c.width_of-width.ensures, c.in-Narrow.is) (c.gathered-bits.ensures 32)
+returns-in-Narrow c = rw (c.width_of.ensures, c.in-Narrow.is) (c.gathered-bits.ensures 32)
 
 pub returns-in-Wide : goal.returns-in-Wide
 unfolding core_of wide
 returns-in-Wide c =
     let bits = c.gathered-bits in
     let fits : bits.result < 2 ^ 64 = search rules in
-    rw (c.width_of-width.ensures, c.in-Wide.is) (sym (lt-ltb bits.result (2 ^ 64) fits) ∙ bits.ensures 64)
+    rw (c.width_of.ensures, c.in-Wide.is) (sym (lt-ltb bits.result (2 ^ 64) fits) ∙ bits.ensures 64)

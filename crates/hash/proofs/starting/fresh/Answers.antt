@@ -3,4 +3,4 @@ use Rattle.hash.specs.State.Open.{fresh_is}
 use Rattle.hash.proofs.starting.fresh.Goals as goal
 
 pub returns : goal.returns
-returns c = rw (fresh_is, c.first_words-words.ensures)
+returns c = rw (fresh_is, c.first_words.ensures)

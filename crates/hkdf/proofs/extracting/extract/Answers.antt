@@ -1,40 +1,32 @@
 -- `hkdf::extracting::extract`: by what the number names, and whether the salt is empty. Assumes nothing.
 use mathlib.Core.Path.{◌≡◌, sym, ap, ◌∙◌}
-use Prim.Native.Nat.{ℕ}
-use native.Mathlib.Omega.{arith}
-use lib.ListN.{replicate}
-use Rattle.algorithm.specs.Hashes.{hash_of, size_of}
-use Rattle.algorithm.specs.Hashes.Laws.{digest_most}
-use Rattle.algorithm.specs.Calls.Laws.{which_unknown, which_is}
-use Rattle.hkdf.specs.Hkdf.Laws.{salt_empty, salt_given}
+use lib.ListN.{length}
+use Rattle.std.proofs.lemmas.Bool.{eqb-true, eqb-false}
+use Rattle.algorithm.specs.Hashes.{hash_of}
+use Rattle.hkdf.specs.Hkdf.{salt_of}
+use Rattle.hkdf.specs.Hkdf.Laws.{salt_given}
 use Rattle.hkdf.specs.Calls.Laws.{extract_unknown}
-use Rattle.hkdf.proofs.Extracts.{extracts}
+use Rattle.hkdf.proofs.Named.{names_none, passed_on, sized}
+use Rattle.hkdf.proofs.Extracts.{zeros_key, extracts}
 use Rattle.hkdf.proofs.extracting.extract.Goals as goal
+use Rattle.hkdf.proofs.extracting.extract.Goals.{then-is_empty, else-is_empty}
 
-pub returns-in_default : goal.returns-in_default
-returns-in_default c =
+pub returns-in_err-hash : goal.returns-in_err-hash
+returns-in_err-hash c =
     let n = c.args.hash_number in
-    sym (extract_unknown n c.args.salt.now c.args.ikm.now c.args.out.now
-    (which_unknown n c.which-named.ensures c.in_default.is))
-
-pub unsalted-requires : goal.unsalted-requires
-unsalted-requires c = omega (arith, c.digest_size-size.ensures, digest_most c.in-Is.hash)
-
-pub returns-then-salt-eq0 : goal.returns-then-salt-eq0
-returns-then-salt-eq0 c =
-    let n = c.args.hash_number in
-    let salt = c.args.salt.now in
-    let known = which_is n c.which-named.ensures c.in-Is.hash c.in-Is.is in
-    let size : c.digest_size-size.result ≡ size_of (hash_of n) = c.digest_size-size.ensures ∙ ap size_of (sym known.1) in
-    extracts n salt c.args.ikm.now c.args.out.now known.0
-    (ap (λ (k : ℕ). replicate k 0) size ∙ sym (salt_empty (hash_of n) salt c.if-salt-eq0.true)) size
-    c.unsalted.ensures
+    let o = c.in_err-hash.ensures in
+    let e = c.in_err-hash.field-0.0 in
+    rw (passed_on n e o c.from_residual.result c.from_residual.ensures.1)
+    (sym (extract_unknown n c.args.salt.now c.args.ikm.now c.args.out.now (names_none n e o)))
 
 pub returns : goal.returns
 returns c =
     let n = c.args.hash_number in
     let salt = c.args.salt.now in
-    let known = which_is n c.which-named.ensures c.in-Is.hash c.in-Is.is in
-    extracts n salt c.args.ikm.now c.args.out.now known.0
-    (sym (salt_given (hash_of n) salt c.if-salt-eq0.false))
-    (c.digest_size-size.ensures ∙ ap size_of (sym known.1)) c.tag_message.ensures
+    let named = sized n c.in_ok-hash.hash c.in_ok-hash.ensures c.digest_size-size.ensures in
+    let key : c.if-is_empty.key.now ≡ salt_of (hash_of n) salt =
+    elim c.if-is_empty.branch [
+      | then-is_empty w ↦ ap (λ k. k.now) w.key-is ∙ zeros_key (hash_of n) salt named.1 (eqb-true (length salt) 0 (sym w.if-is_empty.ensures))
+      | else-is_empty w ↦ ap (λ k. k.now) w.key-is ∙ sym (salt_given (hash_of n) salt (eqb-false (length salt) 0 (sym w.if-is_empty.ensures)))
+    ] in
+    extracts n salt c.args.ikm.now c.args.out.now named.0 key named.1 c.tag_message.ensures

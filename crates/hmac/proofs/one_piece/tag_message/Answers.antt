@@ -1,15 +1,25 @@
--- `hmac::one_piece::tag_message`: the message taken, then its tag. Assumes nothing.
-use mathlib.Core.Path.{sym, ◌∙◌}
+-- `hmac::one_piece::tag_message`: a start and one piece, then its tag. Assumes nothing.
+use Rattle.std.proofs.Common.{refl, sym, ◌∙◌, rules}
+use Rattle.algorithm.specs.Answers.Laws.{refusal_not_done, passed_on}
 use Rattle.hmac.specs.Calls.Laws.{message_tag, tag_message_refused}
+use Rattle.hmac.proofs.Messages.{start_refuses, message_taken, message_refused}
 use Rattle.hmac.proofs.one_piece.tag_message.Goals as goal
 
-pub returns-then-refusal-ne-DONE : goal.returns-then-refusal-ne-DONE
-returns-then-refusal-ne-DONE c =
-    sym (tag_message_refused c.args.hash_number c.args.key.now c.args.message.now c.args.tag_length c.args.out.now
-    c.taken-fed.ensures.number c.if-refusal-ne-DONE.true)
+pub returns-in_err-keyed : goal.returns-in_err-keyed
+returns-in_err-keyed c =
+    rw (passed_on c.from_residual.ensures.1)
+    (sym (tag_message_refused c.args.hash_number c.args.key.now c.args.message.now c.args.tag_length c.args.out.now (start_refuses c.args.hash_number c.args.key.now c.args.message.now c.args.tag_length c.in_err-keyed.ensures).number (refusal_not_done _)))
+
+pub returns-in_err-update : goal.returns-in_err-update
+returns-in_err-update c =
+    rw (passed_on c.from_residual-in_err-update.ensures.1)
+    (sym (tag_message_refused c.args.hash_number c.args.key.now c.args.message.now c.args.tag_length c.args.out.now
+    (message_refused c.args.hash_number c.args.key.now c.args.message.now c.args.tag_length c.in_ok-keyed.ensures c.in_err-update.ensures).number
+    (refusal_not_done _)))
 
 pub returns : goal.returns
 returns c =
     c.tag.ensures
-    ∙ message_tag (c.taken-fed.ensures.whole c.if-refusal-ne-DONE.false)
+    ∙ message_tag
+    ((message_taken c.args.hash_number c.args.key.now c.args.message.now c.args.tag_length c.in_ok-keyed.ensures c.in_ok-update.ensures).whole _ refl)
     c.args.out.now

@@ -1,8 +1,5 @@
 -- `hmac::starting::keyed_by`: both pads of the form taken. Assumes nothing.
-use mathlib.Core.Path.{◌≡◌, sym, ap, ◌∙◌}
-use mathlib.Core.List.{List}
-use Prim.Native.Nat.{ℕ}
-use lib.ListN.{take}
+use Rattle.std.proofs.Common.{◌≡◌, ℕ, List, take, sym, ap, ◌∙◌}
 use Rattle.algorithm.specs.Hashes.{block_of}
 use Rattle.hash.specs.State.{fresh_of, after_of}
 use Rattle.hash.specs.declared.state.State.{State}

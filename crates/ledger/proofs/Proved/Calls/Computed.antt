@@ -1,36 +1,38 @@
 -- Proved: what the private functions compute is what the calls answer. Assumes nothing.
-use Rattle.std.specs.Prelude.{◌≡◌, refl, true, false, ◌||◌, List, eqb, leb}
+use Rattle.std.specs.Prelude.{◌≡◌, refl, true, false, ◌||◌, List, eqb, leb, Ok, Err}
 use Rattle.std.proofs.Common.{sym, ap, ◌∙◌, arith}
 use Rattle.std.proofs.Math.Bool.{Bool, not, cond}
 use Prim.Native.Nat.{ℕ, ◌+◌}
-use Rattle.std.proofs.Math.Decide.{ℕ_discrete}
 use borrow.Author.Tests.{ne_eqb}
 use Rattle.octets.specs.Sums.{largest_total}
+use Rattle.algorithm.specs.Answers.{number_of}
+use Rattle.algorithm.specs.Answers.Laws.{refusal_not_done}
+use Rattle.algorithm.specs.Cases.Laws.{test}
+use Rattle.algorithm.specs.Cases.Test.{yes, no}
 use Rattle.algorithm.specs.Refusals.{done, state_not_sound, ledger_full, total_too_large}
 use Rattle.algorithm.specs.Checks.{first_failing}
 use Rattle.algorithm.specs.Checks.Laws.{append_refuses, append_passes, done_work}
+use Rattle.algorithm.specs.declared.refusals.Refusal.{Refusal}
+use Rattle.algorithm.specs.declared.refusals.Refusal.TheVariants.{StateNotSound}
 use Rattle.ledger.specs.Records.{zero_record, all_used, taken, total_of, sound, entered}
-use Rattle.ledger.specs.Calls.{Submission, submission, fingerprint_in, live_in, record_of, report_checks, room_checks, submit_answer, total_answer}
+use Rattle.ledger.specs.Calls.{Answer, Summed, Submission, submission, fingerprint_in, live_in, record_of, report_checks, room_checks, submit_answer, summed_by, total_answer}
+use Rattle.ledger.specs.Calls.Answer.{New, Seen, Refused}
 use Rattle.ledger.proofs.Proved.Calls.Laws.{report_refusing}
-use Rattle.ledger.specs.Inside.{tally_of, summed_of, refused_one, judged_of, judged_in, enter_of, settled}
-use Rattle.ledger.proofs.Proved.Inside.Laws.{sound_is, sound_sum}
-use Rattle.ledger.proofs.Proved.Inside.Entering.{enter_refused, enter_accepted}
+use Rattle.ledger.specs.Inside.{tally_of, sum_in, judged_by, judged_of, judged_in, enter_of, settled}
+use Rattle.ledger.proofs.Proved.Inside.Laws.{sum_is, sound_is}
+use Rattle.ledger.proofs.Proved.Inside.Entering.{enter_accepted}
 use Rattle.ledger.specs.declared.records.Record.{Record}
-use Rattle.ledger.specs.declared.answers.Answer.{Answer}
-use Rattle.ledger.specs.declared.answers.Answer.TheVariants.{New, Seen, Refused}
-use Rattle.ledger.specs.declared.judging.Judged.{Judged}
-use Rattle.ledger.specs.declared.totals.Summed.{Summed}
+use Rattle.ledger.specs.declared.surveying.Tally.{Tally}
 
 -- what a tally says of the whole slice is what the total answers
-pub total_is : (rs : List Record) → summed_of (tally_of rs) ≡ total_answer rs
+pub total_is : (rs : List Record) → summed_by (sum_in (tally_of rs)) ≡ total_answer rs
 unfolding total_answer
-total_is rs = rw (sound_is rs) (by_sound (sound rs) refl)
+total_is rs = rw (sum_is rs) (by_sound (sound rs))
   where
-    by_sound : (b : Bool) → sound rs ≡ b
-        → ◌≡◌ {A = Summed} (cond b (record { number = done; total = (tally_of rs).sum.total }) (record { number = state_not_sound; total = 0 }))
+    by_sound : (b : Bool) → ◌≡◌ {A = Summed} (summed_by (cond b (Ok (total_of rs)) (Err StateNotSound)))
         (record { number = cond b done state_not_sound; total = cond (eqb (cond b done state_not_sound) done) (total_of rs) 0 })
-    by_sound true s = rw (sound_sum rs s)
-    by_sound false s = refl
+    by_sound true = refl
+    by_sound false = refl
 
 -- what a submission answers: by the slice, then by the checks of the report and its keys, then by its fingerprint and the room for it
 module _ (rs : List Record) (x : Submission) where
@@ -43,7 +45,7 @@ module _ (rs : List Record) (x : Submission) where
     unfolding submit_answer
     submit_bad z = rw (s, append_refuses (report_checks x) (room_checks rs x) z, ne_eqb (first_failing (report_checks x)) done z)
 
-    submit_placed : first_failing (report_checks x) ≡ done → submit_answer rs x ≡ settled rs (fingerprint_in x) (live_in x)
+    submit_placed : first_failing (report_checks x) ≡ done → submit_answer rs x ≡ settled rs (record_of x)
     unfolding submit_answer
     submit_placed d =
         rw (s, append_passes (report_checks x) (room_checks rs x) d (report_refusing x))
@@ -60,22 +62,31 @@ module _ (rs : List Record) (x : Submission) where
         by_tests false false false = refl
         by_tests false false true = refl
 
--- what is entered for a report that was judged for the records is what a submission answers and leaves
-pub submit_is : (rs : List Record) (s tag_key fingerprint_key : List ℕ)
-    → enter_of (judged_in (tally_of rs) s tag_key fingerprint_key) rs ≡ submit_answer rs (submission s tag_key fingerprint_key)
-unfolding judged_of
-submit_is rs s tag_key fingerprint_key = rw (sound_is rs) (by_sound (sound rs) refl)
-  where
-    x : Submission
-    x = submission s tag_key fingerprint_key
+-- a report that was judged for the records: what a submission of it answers, where it is refused, and where it is entered
+module _ (rs : List Record) (s tag_key fingerprint_key : List ℕ) {t : Tally} (k : t ≡ tally_of rs) where
+  abbrev x : Submission
+  x = submission s tag_key fingerprint_key
 
-    by_sound : (b : Bool) → sound rs ≡ b
-        → enter_of (cond b (judged_of s tag_key fingerprint_key) (refused_one state_not_sound)) rs ≡ submit_answer rs x
-    by_sound false e = enter_refused rs (refused_one state_not_sound) (λ z. omega arith) ∙ sym (submit_unsound rs x e)
-    by_sound true e = elim (ℕ_discrete (first_failing (report_checks x)) done) [
-      | no z ↦ enter_refused rs (judged_of s tag_key fingerprint_key) z ∙ sym (submit_bad rs x e z)
-      | yes d ↦
-          ap (λ (j : Judged). enter_of j rs) (λ i. record { number = d i; new_record = done_work (report_checks x) (record_of x) zero_record d i })
-          ∙ enter_accepted rs e (fingerprint_in x) (live_in x)
-          ∙ sym (submit_placed rs x e d)
-    ]
+  by_sound : {p : ℕ × Record} → p ≡ judged_in t s tag_key fingerprint_key
+      → p ≡ cond (sound rs) (judged_of s tag_key fingerprint_key) (state_not_sound, zero_record)
+  by_sound h = h ∙ rw (k, sound_is rs)
+
+  pub refused_is : (e : Refusal) → judged_by (Err e) ≡ judged_in t s tag_key fingerprint_key → (Refused (number_of e), rs) ≡ submit_answer rs x
+  unfolding judged_of
+  refused_is e h = elim (test (sound rs)) [
+    | no f ↦ rw (ap (λ (p : ℕ × Record). p.0) (rw f at (by_sound h))) (sym (submit_unsound rs x f))
+    | yes g ↦
+        let n : number_of e ≡ first_failing (report_checks x) = ap (λ (p : ℕ × Record). p.0) (rw g at (by_sound h)) in
+        rw n (sym (submit_bad rs x g (λ d. refusal_not_done e (n ∙ d))))
+  ]
+
+  pub accepted_is : (r : Record) → judged_by (Ok r) ≡ judged_in t s tag_key fingerprint_key → enter_of t r rs ≡ submit_answer rs x
+  unfolding judged_of
+  accepted_is r h = elim (test (sound rs)) [
+    | no f ↦ let n : done ≡ state_not_sound = ap (λ (p : ℕ × Record). p.0) (rw f at (by_sound h)) in absurd (omega (arith, n))
+    | yes g ↦
+        let j = rw g at (by_sound h) in
+        let d : first_failing (report_checks x) ≡ done = sym (ap (λ (p : ℕ × Record). p.0) j) in
+        let is : r ≡ record_of x = ap (λ (p : ℕ × Record). p.1) j ∙ done_work (report_checks x) (record_of x) zero_record d in
+        rw (k, enter_accepted rs g r, is) (sym (submit_placed rs x g d))
+  ]

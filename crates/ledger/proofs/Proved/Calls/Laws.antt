@@ -23,10 +23,9 @@ use Rattle.report.specs.Calls.Laws.{key_refusing, key_parts, key_too_short_lem, 
 use Rattle.report.specs.Calls.Short.{tag_too_short}
 use Rattle.ledger.specs.Records.{used, zero_record, all_used, taken, total_of, sound, FirstFree, entered}
 use Rattle.ledger.proofs.Proved.Records.Laws.{entered_length, entered_keeps, entered_one, entered_taken, entered_sound}
-use Rattle.ledger.specs.Calls.{Submission, fingerprint_in, live_in, record_of, report_checks, room_checks, submit_checks, submit_answer, IsSeen, IsNew, answer_of, total_answer}
+use Rattle.ledger.specs.Calls.{Answer, Submission, fingerprint_in, live_in, record_of, report_checks, room_checks, submit_checks, submit_answer, IsSeen, IsNew, answer_of, total_answer}
+use Rattle.ledger.specs.Calls.Answer.{New, Seen, Refused}
 use Rattle.ledger.specs.declared.records.Record.{Record}
-use Rattle.ledger.specs.declared.answers.Answer.{Answer}
-use Rattle.ledger.specs.declared.answers.Answer.TheVariants.{New, Seen, Refused}
 
 -- no check of a report or its keys that fails has the number of a call that is done
 pub report_refusing : (x : Submission) → Refusing (report_checks x)

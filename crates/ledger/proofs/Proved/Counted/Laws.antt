@@ -15,10 +15,10 @@ use Rattle.algorithm.specs.Checks.Laws.{done_passes, passes_done}
 use Rattle.ledger.specs.Records.{used, zero_record, all_used, taken, total_of, fingerprints_of, sound}
 use Rattle.ledger.proofs.Proved.Records.Laws.{sound_exactly, entered_total, entered_fingerprints, used_count, zeros_total, zeros_fingerprints, zeros_sound}
 use Rattle.ledger.specs.Calls.{Submission, fingerprint_in, live_in, record_of, report_checks, submit_answer, after_all, IsSeen, IsNew, total_answer}
+use Rattle.ledger.specs.Calls.Answer.{New, Seen}
 use Rattle.ledger.proofs.Proved.Calls.Laws.{report_refusing, good_keys, submit_seen, submit_new, submit_keeps, submit_enters, submit_length, submit_sound, submit_taken, submit_known, total_sum}
 use Rattle.ledger.specs.Counted.{Count, nothing, is_among, is_good, takes, with_one, count_from, taken_in, counted}
 use Rattle.ledger.specs.declared.records.Record.{Record}
-use Rattle.ledger.specs.declared.answers.Answer.TheVariants.{New, Seen}
 
 -- a fingerprint is taken where it is one of the used records'
 pub taken_among : (f : List ℕ) (rs : List Record) → taken f rs ≡ is_among f (fingerprints_of rs)

@@ -1,8 +1,6 @@
 -- `ledger::records::same_fingerprint` meets its contract: two fingerprints whose first words differ are not the same. Assumes nothing.
-use mathlib.Core.Path.{◌≡◌, refl, sym, ◌∙◌, ap}
-use mathlib.Core.Bool.{Bool, true, false}
-use mathlib.Core.List.{List}
-use Prim.Native.Nat.{ℕ}
+use Rattle.std.specs.Prelude.{◌≡◌, refl, Bool, true, false, List, ℕ}
+use Rattle.std.proofs.Common.{ap, ne_eqb}
 use Rattle.octets.specs.Same.{equal}
 use Rattle.octets.specs.Same.Laws.{equal_tells, tells_equal}
 use Rattle.ledger.specs.Inside.{first_word}
@@ -16,8 +14,9 @@ words_differ a b z = by_case (equal a b) refl
     by_case false e = refl
 
 pub returns-then-first_word : goal.returns-then-first_word
-returns-then-first_word c =
-    words_differ _ _ (λ e. c.if-first_word.true (c.first_word.ensures ∙ e ∙ sym c.first_word-2.ensures))
+returns-then-first_word c = tells_equal _ _ c.same.ensures
 
-pub returns : goal.returns
-returns c = tells_equal _ _ c.same.ensures
+pub returns-else-first_word : goal.returns-else-first_word
+returns-else-first_word c =
+    let z = c.if-first_word.false in
+    rw (ne_eqb _ _ z) (words_differ _ _ (rw (c.first_word.ensures, c.first_word-2.ensures) at z))

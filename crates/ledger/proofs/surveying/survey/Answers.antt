@@ -1,29 +1,19 @@
 -- `ledger::surveying::survey`: one record more a turn. Assumes nothing.
-use Rattle.std.proofs.Common.{◌≡◌, ◌<◌, ◌≤◌, [], cond, get_or, length, take, sym, ap, ◌∙◌, arith, length-take-le}
-use Rattle.std.proofs.lemmas.List.{get_or_default}
-use Rattle.ledger.specs.declared.records.Record.{Record}
-use Rattle.ledger.specs.Records.{used, zero_record}
-use Rattle.ledger.specs.Inside.{among, tally_of, with_record}
-use Rattle.ledger.proofs.Proved.Inside.Laws.{count_within, tally_more}
+use mathlib.Core.Path.{refl}
+use Rattle.std.proofs.Common.{◌≤◌, length, take, sym, ◌∙◌, arith, length-take-le}
+use Rattle.ledger.specs.Records.{all_used, used_first, free_zero, none_twice, total_of}
+use Rattle.ledger.specs.Inside.{count_of, tally_of}
+use Rattle.ledger.proofs.Proved.Inside.Laws.{used_within, tally_more}
 use Rattle.ledger.proofs.surveying.survey.Goals as goal
 
+pub loop-i-init : goal.loop-i-init
+unfolding tally_of all_used used_first free_zero none_twice total_of count_of
+loop-i-init c = refl
+
 pub with_record-tally-requires : goal.with_record-tally-requires
-unfolding tally_of
 with_record-tally-requires c =
-    let rs = c.args.records.now in
-    let i = c.loop-i.i in
-    let low : i ≤ length rs = omega arith in
-    rw c.loop-i.invariant.1 (omega (arith, count_within (take i rs), length-take-le i rs low))
+    let low : c.loop-i.i ≤ length c.args.records.now = omega arith in
+    rw c.loop-i.invariant (omega (arith, used_within (take c.loop-i.i c.args.records.now), length-take-le _ _ low))
 
 pub loop-i-preserved : goal.loop-i-preserved
-loop-i-preserved c =
-    let rs = c.args.records.now in
-    let i = c.loop-i.i in
-    let h : i < length rs = omega arith in
-    let none : Record = record { fingerprint = []; live = 0; in_use = 0 } in
-    let same : get_or rs i none ≡ get_or rs i zero_record = get_or_default rs i none zero_record h in
-    let before : c.earlier.result ≡ cond (used (get_or rs i zero_record)) i 0 = c.earlier.ensures ∙ ap (λ (r : Record). cond (used r) i 0) same in
-    let repeated : c.among_first-repeated.result ≡ among (get_or rs i zero_record).fingerprint (take (cond (used (get_or rs i zero_record)) i 0) rs) =
-    c.among_first-repeated.ensures ∙ (λ k. among (same k).fingerprint (take (before k) rs))
-    in
-    (omega arith, c.with_record-tally.ensures ∙ (λ k. with_record (c.loop-i.invariant.1 k) (same k) (repeated k)) ∙ sym (tally_more rs i h))
+loop-i-preserved c = (rw c.loop-i.invariant at c.with_record-tally.ensures) ∙ sym (tally_more _ _ _ c.loop-i-test.true)

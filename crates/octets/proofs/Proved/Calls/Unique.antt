@@ -1,11 +1,10 @@
 -- Proved: no second outcome: what meets the outcome predicate of a function, as its contract cites it, is one. Assumes nothing.
-use Rattle.std.specs.Prelude.{◌≡◌, Bool, List, ℕ}
+use Rattle.std.specs.Prelude.{◌≡◌, Bool, List, ℕ, Option}
 use Rattle.std.proofs.Common.{sym, ◌∙◌}
 use Rattle.octets.specs.Same.Laws.{tells_one}
 use Rattle.octets.specs.Calls.{CopyOutcome, AllZeroOutcome, SameOutcome, EightBytesOutcome, PlusOutcome}
-use Rattle.octets.specs.declared.sums.Sum.{Sum}
 
-pub copy_unique : (src out o o' : List ℕ) → CopyOutcome src out o → CopyOutcome src out o' → o ≡ o'
+pub copy_unique : {A : Type 0} (src out o o' : List A) → CopyOutcome src out o → CopyOutcome src out o' → o ≡ o'
 copy_unique src out o o' e f = e ∙ sym f
 
 pub all_zero_unique : (l : List ℕ) (r r' : Bool) → AllZeroOutcome l r → AllZeroOutcome l r' → r ≡ r'
@@ -17,5 +16,5 @@ same_unique a b r r' = tells_one r r'
 pub eight_bytes_unique : (x : ℕ) (r r' : List ℕ) → EightBytesOutcome x r → EightBytesOutcome x r' → r ≡ r'
 eight_bytes_unique x r r' e f = e ∙ sym f
 
-pub plus_unique : (sum : Sum) (x : ℕ) (r r' : Sum) → PlusOutcome sum x r → PlusOutcome sum x r' → r ≡ r'
+pub plus_unique : (sum : Option ℕ) (x : ℕ) (r r' : Option ℕ) → PlusOutcome sum x r → PlusOutcome sum x r' → r ≡ r'
 plus_unique sum x r r' e f = e ∙ sym f

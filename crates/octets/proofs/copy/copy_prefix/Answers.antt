@@ -1,34 +1,19 @@
--- `octets::copy::copy_prefix` meets its contract. Assumes nothing.
-use mathlib.Core.Path.{◌≡◌}
-use Prim.Native.Nat.{◌<◌}
-use native.Mathlib.Omega.{arith}
-use lib.ListN.{length}
-use borrow.Author.Tests.{ltb-true, ltb-false}
-use Rattle.octets.proofs.Copied.{start, more, to_end, all_of_it}
+-- `octets::copy::copy_prefix`: one element a turn. Assumes nothing.
+use Rattle.std.proofs.Common.{◌≡◌, ◌∙◌, ◌++◌, ◌<◌, ap, arith, length, length-take, take, drop}
+use Rattle.std.proofs.Math.ListN.{get_or, set}
+use Rattle.std.proofs.lemmas.List.{get_or-take}
+use Rattle.octets.specs.Copy.Laws.{copy_next}
 use Rattle.octets.proofs.copy.copy_prefix.Goals as goal
 
 pub loop-i-preserved : goal.loop-i-preserved
-loop-i-preserved c =
+loop-i-preserved g c =
     let l = c.loop-i in
     let s = c.args.src.now in
     let o = c.args.out.now in
-    let h : l.i < length s = omega arith in
-    let k : l.i < length o = omega (arith, ltb-true) in
-    more s o l.out l.i l.invariant h k
-
-pub returns-else-i-out : goal.returns-else-i-out
-returns-else-i-out c =
-    let l = c.loop-i in
-    let o = c.args.out.now in
-    let e : l.i ≡ length o = omega (arith, ltb-false) in
-    to_end c.args.src.now o l.out l.i l.invariant e
-
-pub returns-after-loop-i : goal.returns-after-loop-i
-returns-after-loop-i c =
-    let l = c.loop-i in
-    let s = c.args.src.now in
-    let e : l.i ≡ length s = omega arith in
-    all_of_it s c.args.out.now l.out l.i l.invariant e
-
-pub loop-i-init : goal.loop-i-init
-loop-i-init c = start c.args.src.now c.args.out.now
+    let n = c.min-count.result in
+    let x = c.element-item.result in
+    let h : l.i < n = omega (arith, c.min-count.ensures, length-take n s) in
+    let e : x ≡ get_or s l.i x = c.element-item.is ∙ get_or-take n s l.i x h in
+    ap (λ y. set y l.i x) l.invariant
+    ∙ ap (λ y. set (take l.i s ++ drop l.i o) l.i y) e
+    ∙ copy_next x l.i s o (omega (arith, c.min-count.ensures, h)) (omega (arith, c.min-count.ensures, h))

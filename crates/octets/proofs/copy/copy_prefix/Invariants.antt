@@ -1,11 +1,6 @@
--- `octets::copy::copy_prefix` meets its contract. Assumes nothing.
-use Prim.Native.Nat.{◌-◌}
-use lib.ListN.{length}
-use Rattle.octets.proofs.Copied.{Copied}
+-- `octets::copy::copy_prefix`: so many elements are copied. Assumes nothing.
+use Rattle.std.proofs.Common.{◌≡◌, ◌++◌, take, drop}
 use Rattle.octets.proofs.copy.copy_prefix.Given as goal
 
 abbrev pub invariant-loop-i : goal.invariant-loop-i
-invariant-loop-i l = Copied l.src l.initial.out l.out l.i
-
-abbrev pub decreases-loop-i : goal.decreases-loop-i
-decreases-loop-i l = length l.src - l.i
+invariant-loop-i g l = l.out ≡ take l.i l.src ++ drop l.i l.fn.out

@@ -1,36 +1,19 @@
--- `report::columns::labels_fit`: every length that the loop passed may be. Assumes nothing.
-use mathlib.Core.Path.{◌≡◌, refl, sym, ap, ◌∙◌}
-use mathlib.Core.Bool.{true}
-use Prim.Native.Nat.{◌≤◌}
-use native.Mathlib.Omega.{arith}
-use lib.ListN.{length, get_or}
-use lib.Seq.{take_all}
-use borrow.Author.Rules.{rules}
+-- `report::columns::labels_fit`: what `all` answers of every length. Assumes nothing.
+use Rattle.std.proofs.Common.{◌≡◌, refl, ap, ◌∙◌, Bool, ◌&&◌, ℕ, List, [], ◌∷◌, rules, tests}
+use Rattle.std.specs.List.{list_all}
+use Rattle.std.proofs.lemmas.Iterator.{YieldsList-from_slice}
+use Rattle.std.proofs.lemmas.Iterator.Search.{all_from_yields_List}
 use Rattle.octets.specs.Every.{every}
-use Rattle.octets.specs.Every.Laws.{every_more, every_fails}
 use Rattle.report.specs.Writing.{label_fits}
 use Rattle.report.proofs.columns.labels_fit.Goals as goal
 
-pub loop-i-init : goal.loop-i-init
+all_every : (p : ℕ → Bool) (l : List ℕ) → list_all p l ≡ every p l
 unfolding every
-loop-i-init c = (search rules, refl)
-
-pub returns-then-not-fits : goal.returns-then-not-fits
-returns-then-not-fits c =
-    let l = c.args.lengths.now in
-    let i = c.loop-i.i in
-    sym (every_fails label_fits l i (search rules) (sym c.label_fits-fits.ensures ∙ c.if-not-fits.true))
-
-pub loop-i-preserved : goal.loop-i-preserved
-loop-i-preserved c =
-    let l = c.args.lengths.now in
-    let k = c.loop-i in
-    let fits : label_fits (get_or l k.i 0) ≡ true = sym c.label_fits-fits.ensures ∙ c.if-not-fits.false in
-    (search rules, every_more label_fits l k.i (search rules) ∙ rw (k.invariant.1, fits))
+all_every p [] = refl
+all_every p (x ∷ l) = ap (λ (b : Bool). p x && b) (all_every p l)
 
 pub returns : goal.returns
 returns c =
     let l = c.args.lengths.now in
-    let k = c.loop-i in
-    let h : length l ≤ k.i = omega arith in
-    sym k.invariant.1 ∙ ap (every label_fits) (take_all k.i l h)
+    all_from_yields_List label_fits _ _ _ c.all.ensures.ran (YieldsList-from_slice l cc) (λ x b q k. search (rules, tests))
+    ∙ all_every label_fits l

@@ -1,63 +1,72 @@
 -- `report::derivation::derive`: one key in each half of the output. Assumes nothing.
-use mathlib.Core.Path.{◌≡◌, sym, ap, ◌∙◌}
-use mathlib.Core.List.{List, [], ◌++◌, append-nil}
-use Prim.Native.Nat.{ℕ, ◌-◌, ◌≤◌}
-use native.Mathlib.Omega.{arith}
-use lib.ListN.{length, take, drop, length-append, length-drop, drop_of_length-le}
-use lib.Seq.{length-take-le, take_at}
-use borrow.Author.Rules.{rules}
+use Rattle.std.proofs.Common.{◌≡◌, sym, ap, ◌∙◌, List, [], ◌++◌, ℕ, ◌-◌, length, take, drop, append-nil, length-append, length-drop, length-take-le, rules, arith}
+use Rattle.std.proofs.Math.ListN.{drop_of_length-le}
+use Rattle.std.proofs.Math.Seq.{take_at}
 use borrow.Rule.Slice.PartMut.{put_mid}
 use Rattle.algorithm.specs.Hashes.{hash_of, size_of}
-use Rattle.algorithm.specs.Refusals.{most_info}
+use Rattle.algorithm.specs.Refusals.{done}
+use Rattle.algorithm.specs.Checks.{written}
 use Rattle.hkdf.specs.Hkdf.{expand_of}
 use Rattle.hkdf.specs.Hkdf.Laws.{expand_length}
 use Rattle.hkdf.specs.Calls.{expand_answer}
 use Rattle.hkdf.specs.Calls.Laws.{expand_accepted}
-use Rattle.report.specs.Keys.{for_tag, info_of}
+use Rattle.report.specs.Keys.{for_tag, for_fingerprint, info_of, key_of, keys_of}
 use Rattle.report.specs.Inside.{Derivable}
+use Rattle.algorithm.specs.Answers.Laws.{done_ok}
 use Rattle.report.proofs.derivation.derive.Goals as goal
 
--- what expand writes into an output of a digest's size
-one_key : {n size : ℕ} {prk out : List ℕ} → Derivable n size prk out → (info part : List ℕ) → length info ≤ most_info → length part ≡ size
-    → {r : ℕ} {a : List ℕ} → ◌≡◌ {A = ℕ × List ℕ} (r, a) (expand_answer n prk info part)
-    → {info' : List ℕ} → info ≡ info' → a ≡ expand_of (hash_of n) prk info' (size_of (hash_of n))
-one_key {n} {size} {prk} d info part i e {r} {a} x w =
-    ap (λ (p : ℕ × List ℕ). p.1)
-    (x ∙ expand_accepted n prk info part d.known d.fits (omega (arith, d.digest, d.long)) i (omega (arith, d.digest)))
-    ∙ (λ j. expand_of (hash_of n) prk (w j) ((e ∙ d.digest) j))
+module _ {n size : ℕ} {prk out : List ℕ} (d : Derivable n size prk out) (tenant machine : ℕ) where
+  abbrev key_for : ℕ → List ℕ
+  key_for purpose = key_of (hash_of n) prk purpose tenant machine
 
-key_length : {n size : ℕ} {prk out : List ℕ} → Derivable n size prk out → (info : List ℕ) {a : List ℕ}
-    → a ≡ expand_of (hash_of n) prk info (size_of (hash_of n)) → length a ≡ size
-key_length {n} {size} {prk} d info e = ap length e ∙ expand_length (hash_of n) prk info (size_of (hash_of n)) (omega arith) ∙ sym d.digest
+  -- what expand writes into an output of a digest's size
+  one_key : (purpose : ℕ) {info : List ℕ} (part : List ℕ) → info ≡ info_of purpose tenant machine → length info ≡ 16 → length part ≡ size
+      → expand_answer n prk info part ≡ written done (key_for purpose)
+  one_key purpose {info} part w i e =
+      expand_accepted n prk info part d.known d.fits (omega (arith, d.digest, d.long)) (omega arith) (omega (arith, d.digest))
+      ∙ (λ j. written done (expand_of (hash_of n) prk (w j) ((e ∙ d.digest) j)))
 
--- the second half, lent and given back once the first is written
-halves : (a b o : List ℕ) (size : ℕ) → length a ≡ size → put_mid size (length (a ++ drop size o) - size) (a ++ drop size o) b ≡ a ++ b
-halves a b o size e =
-    let l : List ℕ = a ++ drop size o in
-    let none : drop (length l - size) (drop size l) ≡ [] = drop_of_length-le (drop size l) {i = length l - size} (rw length-drop (omega arith)) in
-    rw (none, append-nil, take_at a (drop size o) size e)
+  -- the first half
+  first_key : {info : List ℕ} → info ≡ info_of for_tag tenant machine → length info ≡ 16 → expand_answer n prk info (take size out) ≡ written done (key_for for_tag)
+  first_key w i = one_key for_tag (take size out) w i (length-take-le size out (omega (arith, d.room)))
 
-pub slice_bounds-expand-end-3 : goal.slice_bounds-expand-end-3
-slice_bounds-expand-end-3 c =
-    sym (length-take-le c.args.size c.args.out.now (omega arith))
+  -- the second half, lent once the first is written, has a digest's size too, and is given back after it
+  module _ {a : List ℕ} (e : a ≡ key_for for_tag) where
+    abbrev whole : List ℕ
+    whole = a ++ drop size out
+
+    first_size : length a ≡ size
+    first_size = ap length e ∙ expand_length (hash_of n) prk (info_of for_tag tenant machine) (size_of (hash_of n)) (omega arith) ∙ sym d.digest
+
+    second_size : length (take (length whole - size) (drop size whole)) ≡ size
+    second_size =
+        length-take-le (length whole - size) (drop size whole) (rw length-drop (omega arith))
+        ∙ omega (arith, first_size, d.room, length-append a (drop size out), length-drop size out)
+
+    second_key : {info : List ℕ} → info ≡ info_of for_fingerprint tenant machine → length info ≡ 16
+        → expand_answer n prk info (take (length whole - size) (drop size whole)) ≡ written done (key_for for_fingerprint)
+    second_key w i = one_key for_fingerprint (take (length whole - size) (drop size whole)) w i second_size
+
+    both_keys : {b : List ℕ} → b ≡ key_for for_fingerprint → put_mid size (length whole - size) whole b ≡ keys_of (hash_of n) prk tenant machine
+    both_keys f =
+        let none : drop (length whole - size) (drop size whole) ≡ [] = drop_of_length-le (drop size whole) {i = length whole - size} (rw length-drop (omega arith)) in
+        rw (none, append-nil, take_at a (drop size out) size first_size) (λ j. e j ++ f j)
+
+pub unwrap-requires : goal.unwrap-requires
+unwrap-requires c =
+    done_ok c.expand.result (ap (λ (x : ℕ × List ℕ). x.0)
+    (c.expand.ensures ∙ first_key c.requires c.args.tenant c.args.machine c.info-tag_info.ensures (search rules)))
+
+pub unwrap-requires-2 : goal.unwrap-requires-2
+unwrap-requires-2 c =
+    let first = first_key c.requires c.args.tenant c.args.machine c.info-tag_info.ensures (search rules) in
+    let e = ap (λ (x : ℕ × List ℕ). x.1) (c.expand.ensures ∙ first) in
+    done_ok c.expand-2.result (ap (λ (x : ℕ × List ℕ). x.0)
+    (c.expand-2.ensures ∙ second_key c.requires c.args.tenant c.args.machine e c.info-fingerprint_info.ensures (search rules)))
 
 pub returns : goal.returns
 returns c =
-    let size = c.args.size in
-    let out = c.args.out.now in
-    let tag-info = c.info-tag_info in
-    let fingerprint-info = c.info-fingerprint_info in
-    let tag_16 : length tag-info.result ≡ 16 = search rules in
-    let fingerprint_16 : length fingerprint-info.result ≡ 16 = search rules in
-    let first = c.expand in
-    let a : List ℕ = first.new.out in
-    let first_key = one_key c.requires tag-info.result (take size out) (omega arith) (length-take-le size out (omega arith)) first.ensures tag-info.ensures in
-    let n : length a ≡ size = key_length c.requires (info_of for_tag c.args.tenant c.args.machine) first_key in
-    let l : List ℕ = a ++ drop size out in
-    let second_size : length (take (length l - size) (drop size l)) ≡ size =
-    length-take-le (length l - size) (drop size l) (rw length-drop (omega arith))
-    ∙ omega (arith, length-append a (drop size out), length-drop size out)
-    in
-    let second = c.expand-2 in
-    let second_key = one_key c.requires fingerprint-info.result (take (length l - size) (drop size l)) (omega arith) second_size second.ensures fingerprint-info.ensures in
-    halves a second.new.out out size n ∙ (λ j. first_key j ++ second_key j)
+    let first = first_key c.requires c.args.tenant c.args.machine c.info-tag_info.ensures (search rules) in
+    let e = ap (λ (x : ℕ × List ℕ). x.1) (c.expand.ensures ∙ first) in
+    let second = second_key c.requires c.args.tenant c.args.machine e c.info-fingerprint_info.ensures (search rules) in
+    both_keys c.requires c.args.tenant c.args.machine e (ap (λ (x : ℕ × List ℕ). x.1) (c.expand-2.ensures ∙ second))

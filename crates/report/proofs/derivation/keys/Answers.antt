@@ -1,17 +1,15 @@
 -- `report::derivation::keys`: its checks in their order, then both keys. Assumes nothing.
-use mathlib.Core.Path.{◌≡◌, sym, ap, ◌∙◌}
-use mathlib.Core.Bool.{true}
-use mathlib.Core.List.{List}
-use Prim.Native.Nat.{ℕ}
-use native.Mathlib.Omega.{arith}
+use Rattle.std.proofs.Common.{◌≡◌, sym, ap, ◌∙◌, true, List, ℕ, arith}
 use Rattle.algorithm.specs.declared.hashes.Hash.{Hash}
+use Rattle.algorithm.specs.declared.refusals.Refusal.{Refusal}
+use Rattle.algorithm.specs.Answers.{number_of}
 use Rattle.algorithm.specs.Hashes.{hash_of, size_of}
-use Rattle.algorithm.specs.Hashes.Laws.{digest_most}
 use Rattle.algorithm.specs.Refusals.{done}
 use Rattle.algorithm.specs.Checks.{written}
 use Rattle.report.specs.Reading.{names_hash, hash_named}
 use Rattle.report.specs.Keys.{keys_of}
 use Rattle.report.specs.Calls.Laws.{named_unknown, named_is, report_hash, keys_unknown, keys_too_long, keys_wrong_size, keys_too_short, keys_accepted}
+use Rattle.algorithm.specs.Answers.Laws.{passed_on}
 use Rattle.report.proofs.derivation.keys.Goals as goal
 
 -- both keys, by the hash that a report names
@@ -19,47 +17,33 @@ named_keys : (n : ℕ) (prk : List ℕ) (tenant machine : ℕ) → names_hash n 
     → o ≡ keys_of (hash_named n) prk tenant machine
 named_keys n prk tenant machine h e = e ∙ ap (λ (x : Hash). keys_of x prk tenant machine) (report_hash n h).1
 
-pub returns-in_default : goal.returns-in_default
-returns-in_default c =
+pub returns-in_err-hash : goal.returns-in_err-hash
+returns-in_err-hash c =
     let n = c.args.hash_number in
-    sym (keys_unknown n c.args.prk.now c.args.tenant c.args.machine c.args.out.now
-    (named_unknown n (sym c.hash_named-named.ensures ∙ c.in_default.is)))
+    let out = c.args.out.now in
+    let unknown = named_unknown n c.in_err-hash.field-0.0 (sym c.in_err-hash.ensures) in
+    rw (passed_on c.from_residual.ensures.1)
+    (ap (λ (f : Refusal). written (number_of f) out) unknown.1 ∙ sym (keys_unknown n c.args.prk.now c.args.tenant c.args.machine out unknown.0))
 
 pub returns-then-prk-gt-MOST_BYTES : goal.returns-then-prk-gt-MOST_BYTES
 returns-then-prk-gt-MOST_BYTES c =
     let n = c.args.hash_number in
-    let known = named_is n c.in-Is.hash (sym c.hash_named-named.ensures ∙ c.in-Is.is) in
+    let known = named_is n c.in_ok-hash.hash (sym c.in_ok-hash.ensures) in
     sym (keys_too_long n c.args.prk.now c.args.tenant c.args.machine c.args.out.now known.0 (omega arith))
-
-pub overflow_mul-size : goal.overflow_mul-size
-overflow_mul-size c = omega (arith, c.digest_size-size.ensures, digest_most c.in-Is.hash)
 
 pub returns-then-out-size : goal.returns-then-out-size
 returns-then-out-size c =
     let n = c.args.hash_number in
-    let known = named_is n c.in-Is.hash (sym c.hash_named-named.ensures ∙ c.in-Is.is) in
+    let known = named_is n c.in_ok-hash.hash (sym c.in_ok-hash.ensures) in
     let size = c.digest_size-size.ensures ∙ ap size_of (sym known.1) in
     sym (keys_wrong_size n c.args.prk.now c.args.tenant c.args.machine c.args.out.now known.0 (omega arith) (omega arith))
 
 pub returns-then-prk-size : goal.returns-then-prk-size
 returns-then-prk-size c =
     let n = c.args.hash_number in
-    let known = named_is n c.in-Is.hash (sym c.hash_named-named.ensures ∙ c.in-Is.is) in
+    let known = named_is n c.in_ok-hash.hash (sym c.in_ok-hash.ensures) in
     let size = c.digest_size-size.ensures ∙ ap size_of (sym known.1) in
     sym (keys_too_short n c.args.prk.now c.args.tenant c.args.machine c.args.out.now known.0 (omega arith) (omega arith) (omega arith))
-
-pub derive-requires : goal.derive-requires
-derive-requires c =
-    let n = c.args.hash_number in
-    let known = named_is n c.in-Is.hash (sym c.hash_named-named.ensures ∙ c.in-Is.is) in
-    let made = report_hash n known.0 in
-    record {
-      known = made.0;
-      digest = c.digest_size-size.ensures ∙ ap size_of (sym (made.1 ∙ known.1));
-      fits = omega arith;
-      long = omega arith;
-      room = omega arith;
-    }
 
 pub returns : goal.returns
 returns c =
@@ -67,8 +51,7 @@ returns c =
     let prk = c.args.prk.now in
     let tenant = c.args.tenant in
     let machine = c.args.machine in
-    let out = c.args.out.now in
-    let known = named_is n c.in-Is.hash (sym c.hash_named-named.ensures ∙ c.in-Is.is) in
+    let known = named_is n c.in_ok-hash.hash (sym c.in_ok-hash.ensures) in
     let size = c.digest_size-size.ensures ∙ ap size_of (sym known.1) in
     ap (written done) (named_keys n prk tenant machine known.0 c.derive.ensures)
-    ∙ sym (keys_accepted n prk tenant machine out known.0 (omega arith) (omega arith) (omega arith))
+    ∙ sym (keys_accepted n prk tenant machine c.args.out.now known.0 (omega arith) (omega arith) (omega arith))

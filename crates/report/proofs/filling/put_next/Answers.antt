@@ -15,7 +15,7 @@ put_site-requires c =
     let room : length (take (length out - at) (drop at out)) ≡ length out - at =
     length-take-le (length out - at) (drop at out) (omega (arith, length-drop at out))
     in
-    record { short = omega (arith, lent_size x, x.most); room = omega (arith, lent_size x, room, x.room) }
+    omega (arith, lent_size x, room, x.room)
 
 pub returns : goal.returns
 returns c =

@@ -1,32 +1,14 @@
--- `report::filling::put_site`: three parts, one after the other. Assumes nothing.
-use mathlib.Core.Path.{◌≡◌, refl, ap, ◌∙◌}
-use mathlib.Core.List.{List, [], ◌∷◌, ◌++◌}
-use Prim.Native.Nat.{ℕ, ◌+◌, ◌-◌, ◌≤◌}
-use native.Mathlib.Omega.{arith}
-use lib.ListN.{length, length-append}
-use borrow.Rule.Slice.PartMut.{put_mid}
-use Rattle.octets.specs.Copy.{over}
-use Rattle.octets.specs.Parts.{over_more}
-use Rattle.report.proofs.Parts.{site_spelled, numbers_length}
+-- `report::filling::put_site`: one part after the other. Assumes nothing.
+use Rattle.std.proofs.Common.{◌∙◌, append_assoc, arith}
+use Rattle.report.specs.Layout.{site_bytes}
+use Rattle.report.proofs.Parts.{no_parts, number_part, list_part}
 use Rattle.report.proofs.filling.put_site.Goals as goal
 
 pub returns : goal.returns
+unfolding site_bytes
 returns c =
-    let label : List ℕ = c.args.label.now in
-    let out : List ℕ = c.args.out.now in
-    let short : length label ≤ 48 = c.requires.short in
-    let room : length label + 13 ≤ length out = c.requires.room in
-    let numbers = c.site_numbers-numbers in
-    let twelve : length numbers.result ≡ 12 = ap length numbers.ensures ∙ numbers_length c.args.live c.args.blocks in
-    let first : List ℕ = length label ∷ [] in
-    let o1 : List ℕ = c.copy_prefix.new.out in
-    let y1 : List ℕ = c.copy_prefix-2.new.out in
-    let o2 : List ℕ = put_mid 1 (length o1 - 1) o1 y1 in
-    let second : o2 ≡ over (first ++ label) out =
-    over_more first label out o1 y1 1 (length o1 - 1) refl (omega arith) c.copy_prefix.ensures refl c.copy_prefix-2.ensures
-    in
-    let third =
-    over_more (first ++ label) numbers.result out o2 c.copy_prefix-3.new.out (1 + length label) (length o2 - (1 + length label)) (omega (arith, length-append first label))
-    (omega arith) second refl c.copy_prefix-3.ensures
-    in
-    third ∙ ap (λ (l : List ℕ). over l out) (site_spelled label c.args.live c.args.blocks short numbers.ensures)
+    let size = number_part (no_parts c.args.out.now) 1 _ (omega arith) c.put_number.ensures in
+    let label = list_part size c.args.label.now c.copy_prefix.new.out (omega arith) c.copy_prefix.ensures in
+    let live = number_part label 8 _ (omega arith) c.put_number-2.ensures in
+    let blocks = number_part live 4 _ (omega arith) c.put_number-3.ensures in
+    blocks.is ∙ simp append_assoc

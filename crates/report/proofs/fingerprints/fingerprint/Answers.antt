@@ -1,11 +1,8 @@
 -- `report::fingerprints::fingerprint`: reading, the key's checks, the output's, then the tag of both pieces. Assumes nothing.
-use mathlib.Core.Path.{◌≡◌, sym, ap, ◌∙◌}
-use mathlib.Core.List.{List, ◌++◌}
-use Prim.Native.Nat.{ℕ, ◌-◌}
-use native.Mathlib.Omega.{arith}
-use lib.ListN.{length, take, drop, length-take, length-drop}
-use lib.Seq.{length-take-le, slice}
+use Rattle.std.proofs.Common.{◌≡◌, sym, ap, ◌∙◌, List, ◌++◌, ℕ, ◌-◌, length, take, drop, length-take, length-drop, length-take-le, arith}
+use Rattle.std.proofs.Math.Seq.{slice}
 use Rattle.octets.specs.Parts.{part_slice}
+use Rattle.algorithm.specs.Answers.Laws.{refusal_not_done, passed_on}
 use Rattle.algorithm.specs.Hashes.{hash_of}
 use Rattle.algorithm.specs.Hashes.Laws.{block_most}
 use Rattle.algorithm.specs.Refusals.{done}
@@ -45,69 +42,42 @@ module _ (s key : List ℕ) {r : Checked} (p : Read s r) where
       e
       ∙ (λ j. tag_of ((ap hash_of p.hash ∙ hash_is s p) j) key 32 (part_slice 4 gap_start s j ++ (part_slice gap_end r.end s ∙ ap (λ (t : ℕ). slice gap_end t s) p.end) j))
 
-pub returns-then-read-ne-DONE : goal.returns-then-read-ne-DONE
-returns-then-read-ne-DONE c =
+pub returns-in_err-checked : goal.returns-in_err-checked
+returns-in_err-checked c =
     let s = c.args.report.now in
     let out = c.args.out.now in
-    let e = c.check_report-read.ensures in
-    ap (λ (n : ℕ). written n out) (number s e)
-    ∙ sym (fingerprint_refused s c.args.fingerprint_key.now out (refuses s e c.if-read-ne-DONE.true))
+    let f = c.in_err-checked.field-0.0 in
+    let e = c.in_err-checked.ensures in
+    rw (passed_on c.from_residual.ensures.1)
+    (ap (λ (n : ℕ). written n out) (number s f e) ∙ sym (fingerprint_refused s c.args.fingerprint_key.now out (refuses s f e)))
 
-pub returns-then-number-ne-DONE : goal.returns-then-number-ne-DONE
-returns-then-number-ne-DONE c =
+pub returns-in_err-check_key : goal.returns-in_err-check_key
+returns-in_err-check_key c =
     let s = c.args.report.now in
     let out = c.args.out.now in
-    let p = read s c.check_report-read.ensures c.if-read-ne-DONE.false in
-    let e = c.check_key-number.ensures in
-    ap (λ (n : ℕ). written n out) e
-    ∙ sym (fingerprint_key_lem s c.args.fingerprint_key.now out p.passes (λ d. c.if-number-ne-DONE.true (e ∙ d)))
+    let p = read s c.in_ok-checked.checked c.in_ok-checked.ensures in
+    let f = c.in_err-check_key.field-0.0 in
+    let e = c.in_err-check_key.ensures in
+    rw (passed_on c.from_residual-in_err-check_key.ensures.1)
+    (ap (λ (n : ℕ). written n out) e
+    ∙ sym (fingerprint_key_lem s c.args.fingerprint_key.now out p.passes (λ d. refusal_not_done f (e ∙ d))))
 
 pub returns-then-out-ne-FINGERPRINT : goal.returns-then-out-ne-FINGERPRINT
 returns-then-out-ne-FINGERPRINT c =
     let s = c.args.report.now in
-    let key = c.args.fingerprint_key.now in
-    let p = read s c.check_report-read.ensures c.if-read-ne-DONE.false in
-    let passes = sym c.check_key-number.ensures ∙ c.if-number-ne-DONE.false in
-    sym (fingerprint_wrong_size s key c.args.out.now p.passes passes c.if-out-ne-FINGERPRINT.true)
-
-pub slice_bounds-tag_pieces-end : goal.slice_bounds-tag_pieces-end
-slice_bounds-tag_pieces-end c =
-    let s = c.args.report.now in
-    let p = read s c.check_report-read.ensures c.if-read-ne-DONE.false in
-    let low = end_low s p in
-    let high = end_high s p in
-    omega arith
-
-pub slice_bounds-tag_pieces-count-2 : goal.slice_bounds-tag_pieces-count-2
-slice_bounds-tag_pieces-count-2 c =
-    let s = c.args.report.now in
-    let low = end_low s (read s c.check_report-read.ensures c.if-read-ne-DONE.false) in
-    omega arith
-
-pub slice_bounds-tag_pieces-start-2 : goal.slice_bounds-tag_pieces-start-2
-slice_bounds-tag_pieces-start-2 c =
-    let s = c.args.report.now in
-    let low = end_low s (read s c.check_report-read.ensures c.if-read-ne-DONE.false) in
-    omega arith
-
-pub slice_bounds-tag_pieces-end-2 : goal.slice_bounds-tag_pieces-end-2
-slice_bounds-tag_pieces-end-2 c =
-    let s = c.args.report.now in
-    end_high s (read s c.check_report-read.ensures c.if-read-ne-DONE.false)
+    let p = read s c.in_ok-checked.checked c.in_ok-checked.ensures in
+    sym (fingerprint_wrong_size s c.args.fingerprint_key.now c.args.out.now p.passes (sym c.in_ok-check_key.ensures) c.if-out-ne-FINGERPRINT.true)
 
 pub tag_pieces-requires : goal.tag_pieces-requires
 tag_pieces-requires c =
     let s = c.args.report.now in
-    let key = c.args.fingerprint_key.now in
-    let p = read s c.check_report-read.ensures c.if-read-ne-DONE.false in
-    let passes = sym c.check_key-number.ensures ∙ c.if-number-ne-DONE.false in
-    pieces s key p _ c.args.out.now passes c.if-out-ne-FINGERPRINT.false
+    let p = read s c.in_ok-checked.checked c.in_ok-checked.ensures in
+    pieces s c.args.fingerprint_key.now p _ c.args.out.now (sym c.in_ok-check_key.ensures) c.if-out-ne-FINGERPRINT.false
 
 pub returns : goal.returns
 returns c =
     let s = c.args.report.now in
     let key = c.args.fingerprint_key.now in
-    let p = read s c.check_report-read.ensures c.if-read-ne-DONE.false in
-    let passes = sym c.check_key-number.ensures ∙ c.if-number-ne-DONE.false in
+    let p = read s c.in_ok-checked.checked c.in_ok-checked.ensures in
     ap (written done) (tagged s key p c.tag_pieces.ensures)
-    ∙ sym (fingerprint_accepted s key c.args.out.now p.passes passes c.if-out-ne-FINGERPRINT.false)
+    ∙ sym (fingerprint_accepted s key c.args.out.now p.passes (sym c.in_ok-check_key.ensures) c.if-out-ne-FINGERPRINT.false)

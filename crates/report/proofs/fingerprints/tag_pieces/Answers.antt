@@ -1,31 +1,26 @@
 -- `report::fingerprints::tag_pieces`: two pieces taken, and a tag of 32 bytes. Assumes nothing.
-use mathlib.Core.Path.{◌≡◌, ap, subst, ◌∙◌}
-use mathlib.Core.Bool.{true}
-use mathlib.Core.List.{List, ◌++◌}
-use Prim.Native.Nat.{ℕ, ◌-◌, ◌≤◌}
-use native.Mathlib.Omega.{arith}
-use lib.ListN.{length, length-append}
+use Rattle.std.proofs.Common.{◌≡◌, Result, sym, ap, ◌∙◌, true, List, ◌++◌, ℕ, ◌+◌, ◌-◌, ◌≤◌, length, length-append, arith}
 use Rattle.algorithm.specs.declared.hashes.Hash.{Hash}
+use Rattle.algorithm.specs.declared.refusals.Refusal.{Refusal}
+use Rattle.algorithm.specs.Answers.{number}
 use Rattle.algorithm.specs.Hashes.{names, hash_of, block_of, allowed}
 use Rattle.algorithm.specs.Hashes.Laws.{block_most}
-use Rattle.algorithm.specs.Refusals.{most_bytes}
+use Rattle.algorithm.specs.Refusals.{done, most_bytes}
+use Rattle.algorithm.specs.Checks.{written}
 use Rattle.hmac.specs.Hmac.{tag_of}
-use Rattle.hmac.specs.Keyed.{fresh_keyed, after_keyed}
-use Rattle.hmac.specs.Keyed.Laws.{keyed_count, keyed_held}
-use Rattle.hmac.specs.Calls.{start_of, update_of, tag_answer}
-use Rattle.hmac.specs.Calls.Laws.{start_accepted, message_tag, tag_message_accepted}
-use Rattle.hmac.specs.Pieces.{Leads}
-use Rattle.hmac.specs.Pieces.Leads.{one, more}
-use Rattle.hmac.specs.Pieces.Laws.{leads_after, fresh_message}
+use Rattle.hmac.specs.Keyed.{HeldKeyed, fresh_keyed, zero_keyed, after_keyed}
+use Rattle.hmac.specs.Keyed.Laws.{keyed_count, keyed_held, keyed_after_count, keyed_after_held, keyed_after_append}
+use Rattle.hmac.specs.Calls.{Started, Fed, started, fed, start_of, update_of, tag_answer}
+use Rattle.hmac.specs.Calls.Laws.{start_accepted, update_accepted, message_tag, tag_message_accepted}
+use Rattle.hmac.specs.Pieces.Laws.{fresh_message}
 use Rattle.hmac.specs.declared.keyed.Keyed.{Keyed}
-use Rattle.hmac.specs.declared.keyed.Started.{Started}
-use Rattle.hmac.specs.declared.keyed.Fed.{Fed}
 use Rattle.report.specs.Reading.{hash_named}
 use Rattle.report.specs.Calls.Laws.{report_hash, fingerprint_allowed}
 use Rattle.report.specs.Inside.{TwoPieces}
+use Rattle.algorithm.specs.Answers.Laws.{done_ok, valued_ok}
 use Rattle.report.proofs.fingerprints.tag_pieces.Goals as goal
 
--- both pieces are taken, and the tag is that of both
+-- the start and both pieces are taken, and the tag is that of both
 module _ {n : ℕ} {key a b out : List ℕ} (p : TwoPieces n key a b out) where
   made : (names n ≡ true) × (hash_of n ≡ hash_named n)
   made = report_hash n p.known
@@ -33,28 +28,65 @@ module _ {n : ℕ} {key a b out : List ℕ} (p : TwoPieces n key a b out) where
   asked : allowed (hash_of n) 32 ≡ true
   asked = ap (λ (h : Hash). allowed h 32) made.1 ∙ fingerprint_allowed n
 
-  both_took : {s : Started} {f g : Fed} → s ≡ start_of n key 32 → f ≡ update_of s.keyed a → g ≡ update_of f.keyed b
-      → g.keyed ≡ after_keyed (fresh_keyed (hash_of n) key 32) (a ++ b)
-  both_took {s} {f} {g} es ef eg =
-      let h : Hash = hash_of n in
-      let start : s.keyed ≡ fresh_keyed h key 32 = ap (λ (r : Started). r.keyed) (es ∙ start_accepted n key 32 made.0 p.key_fits asked) in
-      let both : Leads (fresh_keyed h key 32) (a ++ b) g.keyed = subst (λ (k : Keyed). Leads k (a ++ b) g.keyed) start (more a ef (one eg)) in
-      leads_after both (keyed_held h key 32 asked) (omega (arith, p.fits, keyed_count h key 32, block_most h, length-append a b))
+  abbrev fresh : Keyed
+  fresh = fresh_keyed (hash_of n) key 32
 
-  both_tagged : {k : Keyed} → k ≡ after_keyed (fresh_keyed (hash_of n) key 32) (a ++ b) → {r : ℕ} {o : List ℕ}
-      → ◌≡◌ {A = ℕ × List ℕ} (r, o) (tag_answer k out) → o ≡ tag_of (hash_of n) key 32 (a ++ b)
-  both_tagged {k} e {r} {o} t =
+  held : HeldKeyed fresh
+  held = keyed_held (hash_of n) key 32 asked
+
+  count : fresh.count + (length a + length b) ≤ most_bytes
+  count = omega (arith, p.fits, keyed_count (hash_of n) key 32, block_most (hash_of n))
+
+  start_is : start_of n key 32 ≡ started done fresh
+  start_is = start_accepted n key 32 made.0 p.key_fits asked
+
+  first_is : {k : Keyed} → started done k ≡ start_of n key 32 → update_of k a ≡ fed done (after_keyed fresh a)
+  first_is e = ap (λ (x : Started). update_of x.keyed a) (e ∙ start_is) ∙ update_accepted fresh a held.sound (omega (arith, count))
+
+  second_is : {k l : Keyed} → started done k ≡ start_of n key 32 → fed done l ≡ update_of k a → update_of l b ≡ fed done (after_keyed fresh (a ++ b))
+  second_is e f =
+      let first : HeldKeyed (after_keyed fresh a) = keyed_after_held fresh a held (omega (arith, count)) in
+      ap (λ (x : Fed). update_of x.keyed b) (f ∙ first_is e)
+      ∙ update_accepted (after_keyed fresh a) b first.sound (omega (arith, count, keyed_after_count fresh a))
+      ∙ ap (fed done) (keyed_after_append fresh a b held.waiting_size)
+
+  tag_is : {k l m : Keyed} → started done k ≡ start_of n key 32 → fed done l ≡ update_of k a → fed done m ≡ update_of l b
+      → tag_answer m out ≡ written done (tag_of (hash_of n) key 32 (a ++ b))
+  tag_is e f g =
       let fits : length (a ++ b) ≤ most_bytes - block_of (hash_of n) = rw length-append p.fits in
-      let m = fresh_message n key (a ++ b) 32 made.0 p.key_fits asked fits in
-      ap (λ (x : ℕ × List ℕ). x.1)
-      (t
-      ∙ ap (λ (x : Keyed). tag_answer x out) e
-      ∙ message_tag m out
-      ∙ tag_message_accepted n key (a ++ b) 32 out made.0 p.key_fits fits asked p.size)
+      ap (λ (x : Fed). tag_answer x.keyed out) (g ∙ second_is e f)
+      ∙ message_tag (fresh_message n key (a ++ b) 32 made.0 p.key_fits asked fits) out
+      ∙ tag_message_accepted n key (a ++ b) 32 out made.0 p.key_fits fits asked p.size
+
+-- a piece that is taken has the number of a call that is done
+as_done : (r : Result Unit Refusal) {t u : Keyed} {x : Fed} → fed (number r) t ≡ x → x ≡ fed done u → fed done t ≡ x
+as_done r {t} e g = ap (λ (n : ℕ). fed n t) (sym (ap (λ (y : Fed). y.number) (e ∙ g))) ∙ e
+
+pub unwrap-keyed-requires : goal.unwrap-keyed-requires
+unwrap-keyed-requires c =
+    valued_ok zero_keyed c.start.result (ap (λ (x : Started). x.number) (c.start.ensures ∙ start_is c.requires))
+
+pub unwrap-requires : goal.unwrap-requires
+unwrap-requires c =
+    let e = rw c.unwrap-keyed.ensures at c.start.ensures in
+    done_ok c.update.result (ap (λ (x : Fed). x.number) (c.update.ensures ∙ first_is c.requires e))
+
+pub unwrap-requires-2 : goal.unwrap-requires-2
+unwrap-requires-2 c =
+    let e = rw c.unwrap-keyed.ensures at c.start.ensures in
+    let f = as_done c.update.result c.update.ensures (first_is c.requires e) in
+    done_ok c.update-2.result (ap (λ (x : Fed). x.number) (c.update-2.ensures ∙ second_is c.requires e f))
+
+pub unwrap-requires-3 : goal.unwrap-requires-3
+unwrap-requires-3 c =
+    let e = rw c.unwrap-keyed.ensures at c.start.ensures in
+    let f = as_done c.update.result c.update.ensures (first_is c.requires e) in
+    let g = as_done c.update-2.result c.update-2.ensures (second_is c.requires e f) in
+    done_ok c.tag.result (ap (λ (x : ℕ × List ℕ). x.0) (c.tag.ensures ∙ tag_is c.requires e f g))
 
 pub returns : goal.returns
 returns c =
-    let p = c.requires in
-    both_tagged p
-    (both_took p c.start-started.ensures c.update-fed_first.ensures c.update-fed_second.ensures)
-    c.tag.ensures
+    let e = rw c.unwrap-keyed.ensures at c.start.ensures in
+    let f = as_done c.update.result c.update.ensures (first_is c.requires e) in
+    let g = as_done c.update-2.result c.update-2.ensures (second_is c.requires e f) in
+    ap (λ (x : ℕ × List ℕ). x.1) (c.tag.ensures ∙ tag_is c.requires e f g)

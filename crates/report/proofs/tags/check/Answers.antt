@@ -1,14 +1,10 @@
 -- `report::tags::check`: reading, the key's checks, then the tag. Assumes nothing.
-use mathlib.Core.Path.{◌≡◌, refl, sym, ap, ◌∙◌}
-use mathlib.Core.Bool.{true, cond}
-use mathlib.Core.List.{List}
-use Prim.Native.Nat.{ℕ, ◌-◌, ◌≤◌}
-use native.Mathlib.Omega.{arith}
-use lib.ListN.{length, take, drop, length-drop}
+use Rattle.std.proofs.Common.{◌≡◌, refl, sym, ap, ◌∙◌, true, cond, List, ℕ, ◌-◌, ◌≤◌, length, take, drop, length-drop, arith}
 use Rattle.octets.specs.Number.{number_at}
 use Rattle.octets.specs.Parts.{part_all}
 use Rattle.octets.specs.Same.{equal}
 use Rattle.algorithm.specs.declared.hashes.Hash.{Hash}
+use Rattle.algorithm.specs.Answers.Laws.{refusal_not_done, passed_on}
 use Rattle.algorithm.specs.Hashes.{hash_of, block_of, allowed}
 use Rattle.algorithm.specs.Hashes.Laws.{block_most}
 use Rattle.algorithm.specs.Refusals.{done, tag_differs, most_bytes}
@@ -21,7 +17,7 @@ use Rattle.report.specs.Reading.Laws.{short}
 use Rattle.report.specs.Calls.{key_checks, check_answer}
 use Rattle.report.specs.Calls.Laws.{tag_allowed, key_fits, check_refused, check_key, check_compared}
 use Rattle.report.specs.declared.checks.Checked.{Checked}
-use Rattle.report.proofs.Checked.{Read, number, refuses, read, made, hash_is, end_high, tag_size_lem}
+use Rattle.report.proofs.Checked.{Read, number, refuses, read, made, hash_is, tag_size_lem}
 use Rattle.report.proofs.tags.check.Goals as goal
 
 -- what HMAC says of a report that passes and a key that does
@@ -43,42 +39,23 @@ verified s key {r} p d e =
     ∙ ap (λ (x : Hash). cond (equal tag (tag_of x key t (before_tag s))) done tag_differs) h
     ∙ sym (check_compared s key p.passes d)
 
-pub returns-then-read-ne-DONE : goal.returns-then-read-ne-DONE
-returns-then-read-ne-DONE c =
+pub returns-in_err-checked : goal.returns-in_err-checked
+returns-in_err-checked c =
     let s = c.args.report.now in
-    let e = c.check_report-read.ensures in
-    number s e ∙ sym (check_refused s c.args.tag_key.now (refuses s e c.if-read-ne-DONE.true))
+    let f = c.in_err-checked.field-0.0 in
+    let e = c.in_err-checked.ensures in
+    rw (passed_on c.from_residual.ensures.1) (number s f e ∙ sym (check_refused s c.args.tag_key.now (refuses s f e)))
 
-pub returns-then-number-ne-DONE : goal.returns-then-number-ne-DONE
-returns-then-number-ne-DONE c =
+pub returns-in_err-check_key : goal.returns-in_err-check_key
+returns-in_err-check_key c =
     let s = c.args.report.now in
-    let p = read s c.check_report-read.ensures c.if-read-ne-DONE.false in
-    let e = c.check_key-number.ensures in
-    e ∙ sym (check_key s c.args.tag_key.now p.passes (λ d. c.if-number-ne-DONE.true (e ∙ d)))
-
-pub slice_bounds-verify_message-end : goal.slice_bounds-verify_message-end
-slice_bounds-verify_message-end c =
-    let s = c.args.report.now in
-    end_high s (read s c.check_report-read.ensures c.if-read-ne-DONE.false)
-
-pub overflow_sub-report : goal.overflow_sub-report
-overflow_sub-report c =
-    let s = c.args.report.now in
-    end_high s (read s c.check_report-read.ensures c.if-read-ne-DONE.false)
-
-pub slice_bounds-verify_message-count-2 : goal.slice_bounds-verify_message-count-2
-slice_bounds-verify_message-count-2 c =
-    let s = c.args.report.now in
-    end_high s (read s c.check_report-read.ensures c.if-read-ne-DONE.false)
-
-pub slice_bounds-verify_message-start-2 : goal.slice_bounds-verify_message-start-2
-slice_bounds-verify_message-start-2 c =
-    let s = c.args.report.now in
-    end_high s (read s c.check_report-read.ensures c.if-read-ne-DONE.false)
+    let p = read s c.in_ok-checked.checked c.in_ok-checked.ensures in
+    let f = c.in_err-check_key.field-0.0 in
+    let e = c.in_err-check_key.ensures in
+    rw (passed_on c.from_residual-in_err-check_key.ensures.1) (e ∙ sym (check_key s c.args.tag_key.now p.passes (λ d. refusal_not_done f (e ∙ d))))
 
 pub returns : goal.returns
 returns c =
     let s = c.args.report.now in
-    let key = c.args.tag_key.now in
-    let p = read s c.check_report-read.ensures c.if-read-ne-DONE.false in
-    verified s key p (sym c.check_key-number.ensures ∙ c.if-number-ne-DONE.false) c.verify_message.ensures
+    let p = read s c.in_ok-checked.checked c.in_ok-checked.ensures in
+    verified s c.args.tag_key.now p (sym c.in_ok-check_key.ensures) c.verify_message.ensures

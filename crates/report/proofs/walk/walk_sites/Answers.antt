@@ -1,38 +1,31 @@
 -- `report::walk::walk_sites` meets its contract. The loop's invariant says how far the walk is. Assumes nothing.
-use mathlib.Core.Path.{sym, subst}
-use Prim.Native.Nat.{◌+◌, ◌≤◌, ◌<◌}
-use native.Mathlib.Omega.{arith}
-use Rattle.octets.specs.Sums.{largest_total}
-use Rattle.octets.specs.declared.sums.Sum.{Sum}
-use Rattle.report.proofs.Walking.{Far, far_start, far_refused, far_more, far_end, refused_walk}
+use Rattle.std.proofs.Common.{refl}
+use Rattle.std.proofs.lemmas.Result.{err_from_is_err_and}
+use Rattle.algorithm.specs.Answers.Laws.{refusal_not_done}
+use Rattle.report.proofs.Walking.{far_start, far_refused, far_more, far_end, refused_walk}
 use Rattle.report.proofs.walk.walk_sites.Goals as goal
 
-pub loop-i-init : goal.loop-i-init
-loop-i-init c = far_start c.args.body.now c.args.sites c.requires
+pub loop-init : goal.loop-init
+loop-init c = far_start c.args.body.now c.args.sites c.requires
 
-pub pass_site-site-requires : goal.pass_site-site-requires
-pass_site-site-requires c = c.loop-i.invariant.inside
+pub pass_site-requires : goal.pass_site-requires
+pass_site-requires c = c.loop.invariant.inside
 
-pub returns-then-site-ne-DONE : goal.returns-then-site-ne-DONE
-returns-then-site-ne-DONE c =
-    let l = c.loop-i in
-    let r = c.pass_site-site in
-    let below : l.i < c.args.sites = omega arith in
-    refused_walk c.args.body.now c.args.sites r.result.number
-    (far_refused c.args.body.now c.args.sites l.at l.sum l.i l.invariant r.result r.ensures below c.if-site-ne-DONE.true)
-    c.if-site-ne-DONE.true
+pub returns-in_err-site : goal.returns-in_err-site
+returns-in_err-site c =
+    let l = c.loop in
+    let e = c.in_err-site.field-0.0 in
+    let p = err_from_is_err_and c.from_residual.result c.from_residual.ensures.1 in
+    rw (p.1, p.2) (refused_walk c.args.body.now c.args.sites e
+    (far_refused c.args.body.now c.args.sites l.at l.sum l.counter l.invariant _ c.in_err-site.ensures c.loop-test.true (refusal_not_done e)))
 
-pub loop-i-preserved : goal.loop-i-preserved
-loop-i-preserved c =
-    let l = c.loop-i in
-    let r = c.pass_site-site in
-    let below : l.i < c.args.sites = omega arith in
-    subst (λ (s : Sum). Far c.args.body.now c.args.sites r.result.next s (l.i + 1)) (sym c.plus-next.ensures)
-    (far_more c.args.body.now c.args.sites l.at l.sum l.i l.invariant r.result r.ensures below c.if-site-ne-DONE.false)
+pub loop-preserved : goal.loop-preserved
+loop-preserved c =
+    let l = c.loop in
+    rw c.plus-sum.ensures
+    (far_more c.args.body.now c.args.sites l.at l.sum l.counter l.invariant _ c.in_ok-site.ensures c.loop-test.true refl)
 
 pub returns : goal.returns
 returns c =
-    let l = c.loop-i in
-    let all : c.args.sites ≤ l.i = omega arith in
-    let fits : c.end.result.live ≤ largest_total = omega (arith, c.end.type_inv) in
-    far_end c.args.body.now c.args.sites l.at l.sum l.i l.invariant all c.end.result fits c.end.ensures
+    let l = c.loop in
+    far_end c.args.body.now c.args.sites l.at l.sum l.counter l.invariant c.loop-test.false _ c.end.ensures

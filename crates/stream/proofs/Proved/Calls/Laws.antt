@@ -13,17 +13,14 @@ use Rattle.algorithm.specs.Checks.Refusing.{none}
 use Rattle.algorithm.specs.Checks.Laws.{fails_number, number_fails, passes_done, done_passes, refuses, decided_work, decided_given}
 use Rattle.report.specs.Layout.{largest_report}
 use Rattle.report.specs.Reading.{read_of}
-use Rattle.stream.specs.Stream.{total_of, in_range, waits, answer_to}
+use Rattle.stream.specs.Stream.{Answer, More, Whole, Refused, total_of, in_range, waits, answer_to}
 use Rattle.stream.proofs.Proved.Stream.Laws.{in_range_lem, waits_out, waits_done, waits_long, waits_whole, beginning_is}
-use Rattle.stream.specs.Calls.{closed_state, is_closed, most_collected, number_of, refused_fed, more_fed, closing_fed, whole_fed, feed_checks, on_hand, filled, taken, feed_answer, WantsMore, Closes, MakesWhole}
+use Rattle.stream.specs.Calls.{Fed, closed_state, is_closed, most_collected, number_of, refused_fed, more_fed, closing_fed, whole_fed, feed_checks, on_hand, filled, taken, feed_answer, WantsMore, Closes, MakesWhole}
 use Rattle.stream.specs.Runs.{is_more}
 use Rattle.stream.specs.Inside.{Beginning, Waiting}
 use Rattle.stream.specs.Inside.Beginning.{waiting, closing, whole}
 use Rattle.stream.proofs.Proved.Inside.Laws.{held_lost, taken_more, taken_closing, taken_whole, used_fits, filled_length, hand_length, whole_ahead, taken_leaves, more_waits, whole_waits}
 use Rattle.stream.specs.declared.answers.State.{State}
-use Rattle.stream.specs.declared.answers.Answer.{Answer}
-use Rattle.stream.specs.declared.answers.Answer.TheVariants.{More, Whole, Refused}
-use Rattle.stream.specs.declared.answers.Fed.{Fed}
 
 -- the number of a whole report is the plain reader's, and its answer is not "more"
 pub number_read : (n : ℕ) → number_of (answer_to n) ≡ n

@@ -7,10 +7,9 @@ use Rattle.algorithm.specs.Cases.Test.{yes, no}
 use Rattle.report.specs.Layout.{largest_report}
 use Rattle.stream.specs.Stream.{total_of, in_range, waits}
 use Rattle.stream.proofs.Proved.Stream.Laws.{in_range_lem, waits_short, waits_out, waits_done, waits_open, waits_long, waits_whole, waits_few, beginning_is, total_front}
-use Rattle.stream.specs.Calls.{more_fed, closing_fed, whole_fed, filled, on_hand, taken}
+use Rattle.stream.specs.Calls.{Fed, more_fed, closing_fed, whole_fed, filled, on_hand, taken}
 use Rattle.stream.specs.Inside.{Beginning, Waiting}
 use Rattle.stream.specs.Inside.Beginning.{waiting, closing, whole}
-use Rattle.stream.specs.declared.answers.Fed.{Fed}
 
 -- what is taken in, by what the bytes on hand begin with
 module _ (s : List ℕ) (c n : ℕ) (b : List ℕ) where

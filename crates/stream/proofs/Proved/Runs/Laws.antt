@@ -11,14 +11,13 @@ use Rattle.report.specs.Layout.{largest_report}
 use Rattle.report.specs.Reading.{read_of}
 use Rattle.stream.specs.Stream.{total_of, in_range, waits, reads, Event, answers_for, answers_of}
 use Rattle.stream.proofs.Proved.Stream.Laws.{in_range_lem, waits_long, waits_whole, beginning_is, begun, answers_closing, answers_whole, answers_waiting}
-use Rattle.stream.specs.Calls.{fresh_state, more_fed, closing_fed, whole_fed, filled, on_hand, taken, feed_answer}
+use Rattle.stream.specs.Calls.{Fed, fresh_state, more_fed, closing_fed, whole_fed, filled, on_hand, taken, feed_answer}
 use Rattle.stream.proofs.Proved.Calls.Laws.{whole_not_more, waits_pass, passed_answer}
 use Rattle.stream.specs.Inside.{Beginning, Waiting}
 use Rattle.stream.specs.Inside.Beginning.{waiting, closing, whole}
 use Rattle.stream.proofs.Proved.Inside.Laws.{taken_more, taken_closing, taken_whole, take_filled, hand_length, hand_drop, whole_ahead, fresh_waits, more_held, more_waits, whole_waits}
 use Rattle.stream.specs.Runs.{onward, feeds, run_of}
 use Rattle.stream.specs.declared.answers.State.{State}
-use Rattle.stream.specs.declared.answers.Fed.{Fed}
 
 -- one feed of a run
 one_feed : (n : ℕ) (state : State) (buffer p : List ℕ) (ps : List (List ℕ)) (x : Fed × List ℕ)

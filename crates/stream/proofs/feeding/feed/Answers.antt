@@ -1,4 +1,5 @@
 -- `stream::feeding::feed`: its checks in their order, then the bytes. Assumes nothing.
+use Rattle.stream.specs.Calls.{Fed}
 use mathlib.Core.Path.{◌≡◌, sym, ap, ◌∙◌}
 use mathlib.Core.Logic.{inl, inr}
 use mathlib.Core.Bool.{false}
@@ -9,7 +10,6 @@ use Rattle.stream.specs.Stream.{waits}
 use Rattle.stream.proofs.Proved.Calls.Laws.{feed_not_sound, feed_wrong_size, feed_closed, waits_pass, passed_answer}
 use Rattle.stream.specs.Inside.{Waiting}
 use Rattle.stream.proofs.Proved.Inside.Laws.{held_lost}
-use Rattle.stream.specs.declared.answers.Fed.{Fed}
 use Rattle.stream.proofs.feeding.feed.Goals as goal
 
 pub returns-then-collected-gt-MOST_COLLECTED : goal.returns-then-collected-gt-MOST_COLLECTED

@@ -1,9 +1,9 @@
 -- `stream::taking::take_body`: up to the total, and the plain reader's answer where it is reached. Assumes nothing.
+use Rattle.stream.specs.Calls.{Fed}
 use mathlib.Core.Path.{sym, ap, ◌∙◌}
 use native.Mathlib.Omega.{arith}
 use lib.Seq.{length-take-le}
 use Rattle.stream.proofs.Proved.Inside.Laws.{held_length}
-use Rattle.stream.specs.declared.answers.Fed.{Fed}
 use Rattle.stream.proofs.Goals.{body_goal, body_more, body_whole}
 use Rattle.stream.proofs.taking.take_body.Goals as goal
 

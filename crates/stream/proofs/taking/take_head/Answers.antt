@@ -1,4 +1,5 @@
 -- `stream::taking::take_head`: up to the fourth byte, and on with the rest of the piece where the total is in range. Assumes nothing.
+use Rattle.stream.specs.Calls.{Fed, fed_by}
 use mathlib.Core.Path.{◌≡◌, refl, sym, ap, ◌∙◌}
 use mathlib.Core.Bool.{true, false}
 use mathlib.Core.List.{List}
@@ -9,7 +10,6 @@ use lib.Seq.{length-take-le}
 use borrow.Author.Rules.{rules}
 use Rattle.octets.specs.Parts.{part_all}
 use Rattle.stream.specs.Stream.{in_range}
-use Rattle.stream.specs.declared.answers.Fed.{Fed}
 use Rattle.stream.proofs.Goals.{head_more, after_length, head_closing, head_waiting, head_on, head_used}
 use Rattle.stream.proofs.taking.take_head.Goals as goal
 
@@ -60,7 +60,7 @@ later-requires c =
     let in_it : in_range total.result ≡ true = sym c.in_range.ensures ∙ c.if-not-in_range.false in
     let body = c.take_body-fed in
     let p = c.args.piece.now in
-    omega (arith, head_used c.args.collected c.args.buffer.now c.args.piece.now c.requires.waiting c.requires.head_waits col.new.buffer col.ensures (omega arith) total.result total.ensures in_it (rest c.args.collected p) body.result body.new.buffer (rest_is c.args.collected p) body.ensures)
+    omega (arith, head_used c.args.collected c.args.buffer.now c.args.piece.now c.requires.waiting c.requires.head_waits col.new.buffer col.ensures (omega arith) total.result total.ensures in_it (rest c.args.collected p) (fed_by body.result) body.new.buffer (rest_is c.args.collected p) body.ensures)
 
 pub returns : goal.returns
 unfolding rest
@@ -71,4 +71,4 @@ returns c =
     let body = c.take_body-fed in
     let p = c.args.piece.now in
     ap (λ (f : Fed). (f, body.new.buffer)) c.later.ensures
-    ∙ head_on c.args.collected c.args.buffer.now c.args.piece.now c.requires.waiting c.requires.head_waits col.new.buffer col.ensures (omega (arith, c.if-piece-to_fourth.false)) total.result total.ensures in_it (rest c.args.collected p) body.result body.new.buffer (rest_is c.args.collected p) body.ensures
+    ∙ head_on c.args.collected c.args.buffer.now c.args.piece.now c.requires.waiting c.requires.head_waits col.new.buffer col.ensures (omega (arith, c.if-piece-to_fourth.false)) total.result total.ensures in_it (rest c.args.collected p) (fed_by body.result) body.new.buffer (rest_is c.args.collected p) body.ensures

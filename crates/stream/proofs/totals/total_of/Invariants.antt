@@ -18,8 +18,5 @@ pub record Inv (bytes : List ℕ) (n i : ℕ) : Type 0 where
 unfoldable pub room : (i n : ℕ) → i ≤ 4 → n < 256 ^ i → n < 256 ^ 4
 room i n h k = omega (arith, pow-le-pow_right (zero-lt-suc 255) h)
 
-abbrev pub invariant-loop-i : goal.invariant-loop-i
-invariant-loop-i l = Inv l.bytes l.n l.i
-
-abbrev pub decreases-loop-i : goal.decreases-loop-i
-decreases-loop-i l = 4 - l.i
+abbrev pub invariant-loop-byte : goal.invariant-loop-byte
+invariant-loop-byte l = Inv l.bytes l.n l.byte-index

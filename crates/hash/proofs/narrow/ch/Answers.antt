@@ -1,6 +1,0 @@
--- `hash::narrow::ch` is the definition's, spelled with fewer operations. Assumes nothing.
-use Rattle.hash.proofs.Word.{ch_code}
-use Rattle.hash.proofs.narrow.ch.Goals as goal
-
-pub returns : goal.returns
-returns c = ch_code 32 c.args.x c.args.y c.args.z c.ranges.x.fits c.ranges.z.fits

@@ -1,9 +1,0 @@
--- `ledger::totals::sum_up` meets its contract. Assumes nothing.
-use mathlib.Core.Path.{sym, ◌∙◌}
-use Rattle.ledger.proofs.totals.sum_up.Goals as goal
-
-pub returns-then-is_sound : goal.returns-then-is_sound
-returns-then-is_sound c = rw (sym c.is_sound.ensures ∙ c.if-is_sound.true)
-
-pub returns : goal.returns
-returns c = rw (sym c.is_sound.ensures ∙ c.if-is_sound.false)
