@@ -1,4 +1,6 @@
 // The hashes that we make: their numbers and their sizes.
+ghost use Rattle.std.specs.Prelude.{◌≡◌};
+ghost use Rattle.algorithm.specs.Hashes.{hash_number};
 ghost use Rattle.algorithm.specs.Calls.{WhichOutcome, BlockSizeOutcome, DigestSizeOutcome, ShortestTagOutcome};
 
 use crate::refusals::Refusal;
@@ -20,6 +22,18 @@ impl TryFrom<u32> for Hash {
             1 => Ok(Hash::Sha256),
             2 => Ok(Hash::Sha512),
             _ => Err(Refusal::UnknownHash),
+        }
+    }
+}
+
+// The number that names a hash.
+impl From<Hash> for u32 {
+    ghost from_gives = { λ hash n. n ≡ hash_number hash };
+
+    fn from(hash: Hash) -> u32 {
+        match hash {
+            Hash::Sha256 => 1,
+            Hash::Sha512 => 2,
         }
     }
 }

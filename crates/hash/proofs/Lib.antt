@@ -1,6 +1,5 @@
 pub mod Bits
 pub mod Word
-pub mod Numbers
 pub mod Schedule
 pub mod Rounds
 pub mod Ring

@@ -22,8 +22,11 @@ shifted_lt w n {x} h hx =
     let e : (w - n) + n ≡ w = omega arith in
     shr_lt (w - n) n (subst (λ (m : ℕ). x < 2 ^ m) (sym e) hx)
 
--- two shifts joined by `or` are a rotation
-pub rotr_code : (w n : ℕ) {x : ℕ} → n ≤ w → x < 2 ^ w → bit_or (x / 2 ^ n) ((x * 2 ^ (w - n)) % 2 ^ w) ≡ rotr w n x
+-- a rotation as the library has it: two shifts joined by `or`
+abbrev turned : ℕ → ℕ → ℕ → ℕ
+turned w n x = bit_or (x / 2 ^ n) ((x * 2 ^ (w - n)) % 2 ^ w)
+
+pub rotr_code : (w n : ℕ) {x : ℕ} → n ≤ w → x < 2 ^ w → turned w n x ≡ rotr w n x
 unfolding rotr
 rotr_code w n {x} h hx =
     let e : n + (w - n) ≡ w = omega arith in
@@ -82,24 +85,33 @@ rotr_onto w a b {x} {y} h k hx hy =
     rotr_xor w a (omega arith) hx (rotr_lt w (b - a) (omega arith) hy)
     ∙ ap (bit_xor (rotr w a x)) (rotr_rotr w a (b - a) y (omega arith) ∙ ap (λ (m : ℕ). rotr w m y) e)
 
+-- a word joined with a rotated one stays within the width
+joined_lt : (w n : ℕ) {x y z : ℕ} → n ≤ w → x < 2 ^ w → y < 2 ^ w → z ≡ rotr w n y → bit_xor x z < 2 ^ w
+joined_lt w n {x} {y} {z} h hx hy e = xor_lt w x z hx (subst (λ (v : ℕ). v < 2 ^ w) (sym e) (rotr_lt w n h hy))
+
 -- the four sigma functions, from nested rotations
 pub big_code : (w : ℕ) (n : Amounts) (x : ℕ) {p q r : ℕ} → n.a ≤ n.b → n.b ≤ n.c → n.c ≤ w → x < 2 ^ w
-    → p ≡ rotr w (n.c - n.b) x → q ≡ rotr w (n.b - n.a) (bit_xor x p) → r ≡ rotr w n.a (bit_xor x q) → r ≡ big w n x
+    → p ≡ turned w (n.c - n.b) x → q ≡ turned w (n.b - n.a) (bit_xor x p) → r ≡ turned w n.a (bit_xor x q) → r ≡ big w n x
 unfolding big
 big_code w n x {p} {q} h k l hx e f g =
-    let hp : bit_xor x p < 2 ^ w = xor_lt w x p hx (subst (λ (z : ℕ). z < 2 ^ w) (sym e) (rotr_lt w (n.c - n.b) (omega arith) hx)) in
+    let p_is : p ≡ rotr w (n.c - n.b) x = e ∙ rotr_code w (n.c - n.b) (omega arith) hx in
+    let hp : bit_xor x p < 2 ^ w = joined_lt w (n.c - n.b) (omega arith) hx hx p_is in
+    let q_is : q ≡ rotr w (n.b - n.a) (bit_xor x p) = f ∙ rotr_code w (n.b - n.a) (omega arith) hp in
     g
-    ∙ ap (λ (z : ℕ). rotr w n.a (bit_xor x z)) f
+    ∙ rotr_code w n.a (omega arith) (joined_lt w (n.b - n.a) (omega arith) hx hp q_is)
+    ∙ ap (λ (z : ℕ). rotr w n.a (bit_xor x z)) q_is
     ∙ rotr_onto w n.a n.b h (omega arith) hx hp
-    ∙ ap (λ (z : ℕ). bit_xor (rotr w n.a x) (rotr w n.b (bit_xor x z))) e
+    ∙ ap (λ (z : ℕ). bit_xor (rotr w n.a x) (rotr w n.b (bit_xor x z))) p_is
     ∙ ap (bit_xor (rotr w n.a x)) (rotr_onto w n.b n.c k l hx hx)
     ∙ xor_assoc (rotr w n.a x) (rotr w n.b x) (rotr w n.c x)
 
 pub small_code : (w : ℕ) (n : Amounts) (x : ℕ) {p q : ℕ} → n.a ≤ n.b → n.b ≤ w → x < 2 ^ w
-    → p ≡ rotr w (n.b - n.a) x → q ≡ rotr w n.a (bit_xor x p) → bit_xor q (x / 2 ^ n.c) ≡ small w n x
+    → p ≡ turned w (n.b - n.a) x → q ≡ turned w n.a (bit_xor x p) → bit_xor q (x / 2 ^ n.c) ≡ small w n x
 unfolding small shr
 small_code w n x h k hx e f =
-    ap (λ (z : ℕ). bit_xor z (x / 2 ^ n.c)) (f ∙ ap (λ (z : ℕ). rotr w n.a (bit_xor x z)) e ∙ rotr_onto w n.a n.b h k hx hx)
+    let p_is = e ∙ rotr_code w (n.b - n.a) (omega arith) hx in
+    let q_is = f ∙ rotr_code w n.a (omega arith) (joined_lt w (n.b - n.a) (omega arith) hx hx p_is) in
+    ap (λ (z : ℕ). bit_xor z (x / 2 ^ n.c)) (q_is ∙ ap (λ (z : ℕ). rotr w n.a (bit_xor x z)) p_is ∙ rotr_onto w n.a n.b h k hx hx)
 
 -- Ch, with one operation less
 pub ch_code : (w : ℕ) (x y z : ℕ) → x < 2 ^ w → z < 2 ^ w → bit_xor (bit_and x (bit_xor y z)) z ≡ ch w x y z

@@ -1,8 +1,6 @@
 // The chaining words after runs of blocks, for either hash. A state holds them as 64-bit numbers.
 ghost use Rattle.std.specs.Prelude.{◌≡◌, ◌^◌, true, nat_lt};
 ghost use Rattle.octets.specs.Every.{every};
-ghost use Rattle.algorithm.specs.Hashes.{block_of};
-ghost use Rattle.hash.specs.Run.{Run};
 ghost use Rattle.hash.specs.State.{fit, words_of};
 
 use crate::step;
@@ -27,7 +25,7 @@ fn widened(words: [u32; 8]) -> [u64; 8]
 
 // The chaining words after a run, by the width of the hash's words; `k` is lent by the caller.
 fn after_run(hash: Hash, words: [u64; 8], run: &[u8], k: &Table) -> [u64; 8]
-    requires { (fit hash words ≡ true) × (Run (block_of hash) run.now) }
+    requires { fit hash words ≡ true }
     ensures { result ≡ words_of hash words run.now }
 {
     match width_of(hash) {
@@ -44,7 +42,7 @@ pub(crate) fn words_after<'a>(
     first: &'a [u8],
     second: &'a [u8],
 ) -> [u64; 8]
-    requires { (fit hash words ≡ true) × (Run (block_of hash) first.now) × (Run (block_of hash) second.now) }
+    requires { fit hash words ≡ true }
     ensures { result ≡ words_of hash (words_of hash words first.now) second.now }
 {
     let k = Table::new();

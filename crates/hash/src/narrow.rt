@@ -1,20 +1,12 @@
 // Words of 32 bits (FIPS 180-4, section 4.1.2).
 ghost use Rattle.std.specs.Prelude.{◌≡◌, ◌<◌};
-ghost use Rattle.hash.specs.Word.{rotr};
 ghost use Rattle.hash.specs.Description.{narrow};
 ghost use Rattle.std.proofs.Common.{lit≤};
 ghost use Rattle.hash.specs.Sizes.Laws.{narrow_sizes};
 
 use crate::table::{Table, upper};
-use crate::words::{Word, word32};
+use crate::words::Word;
 use std::num::wrapping_add_u32;
-
-fn rotr(x: u32, n: u32) -> u32
-    requires { (0 < n) × (n < 32) }
-    ensures { result ≡ rotr 32 n x }
-{
-    (x >> n) | (x << (32 - n))
-}
 
 impl Word for u32 {
     ghost core = { narrow };
@@ -45,19 +37,19 @@ impl Word for u32 {
     // The rotations of the four sigma functions are nested, for speed: the innermost word is rotated by 22 - 13, by 13 - 2 and by 2,
     // which is by 22.
     fn big0(x: u32) -> u32 {
-        rotr(x ^ rotr(x ^ rotr(x, 22 - 13), 13 - 2), 2)
+        (x ^ (x ^ x.rotate_right(22 - 13)).rotate_right(13 - 2)).rotate_right(2)
     }
 
     fn big1(x: u32) -> u32 {
-        rotr(x ^ rotr(x ^ rotr(x, 25 - 11), 11 - 6), 6)
+        (x ^ (x ^ x.rotate_right(25 - 11)).rotate_right(11 - 6)).rotate_right(6)
     }
 
     fn small0(x: u32) -> u32 {
-        rotr(x ^ rotr(x, 18 - 7), 7) ^ (x >> 3)
+        (x ^ x.rotate_right(18 - 7)).rotate_right(7) ^ (x >> 3)
     }
 
     fn small1(x: u32) -> u32 {
-        rotr(x ^ rotr(x, 19 - 17), 17) ^ (x >> 10)
+        (x ^ x.rotate_right(19 - 17)).rotate_right(17) ^ (x >> 10)
     }
 
     fn constant(k: &Table, t: usize) -> u32 {
@@ -65,7 +57,7 @@ impl Word for u32 {
     }
 
     fn read(b: &[u8], at: usize) -> u32 {
-        word32(b, at)
+        u32::from_be_bytes([b[at], b[at + 1], b[at + 2], b[at + 3]])
     }
 
     ghost sizes = { narrow_sizes };

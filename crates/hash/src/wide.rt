@@ -1,20 +1,12 @@
 // Words of 64 bits (FIPS 180-4, section 4.1.3).
 ghost use Rattle.std.specs.Prelude.{◌≡◌, ◌<◌};
-ghost use Rattle.hash.specs.Word.{rotr};
 ghost use Rattle.hash.specs.Description.{wide};
 ghost use Rattle.std.proofs.Common.{lit≤};
 ghost use Rattle.hash.specs.Sizes.Laws.{wide_sizes};
 
 use crate::table::Table;
-use crate::words::{Word, word64};
+use crate::words::Word;
 use std::num::wrapping_add_u64;
-
-fn rotr(x: u64, n: u64) -> u64
-    requires { (0 < n) × (n < 64) }
-    ensures { result ≡ rotr 64 n x }
-{
-    (x >> n) | (x << (64 - n))
-}
 
 impl Word for u64 {
     ghost core = { wide };
@@ -45,19 +37,19 @@ impl Word for u64 {
     // The rotations of the four sigma functions are nested, for speed: the innermost word is rotated by 39 - 34, by 34 - 28 and by
     // 28, which is by 39.
     fn big0(x: u64) -> u64 {
-        rotr(x ^ rotr(x ^ rotr(x, 39 - 34), 34 - 28), 28)
+        (x ^ (x ^ x.rotate_right(39 - 34)).rotate_right(34 - 28)).rotate_right(28)
     }
 
     fn big1(x: u64) -> u64 {
-        rotr(x ^ rotr(x ^ rotr(x, 41 - 18), 18 - 14), 14)
+        (x ^ (x ^ x.rotate_right(41 - 18)).rotate_right(18 - 14)).rotate_right(14)
     }
 
     fn small0(x: u64) -> u64 {
-        rotr(x ^ rotr(x, 8 - 1), 1) ^ (x >> 7)
+        (x ^ x.rotate_right(8 - 1)).rotate_right(1) ^ (x >> 7)
     }
 
     fn small1(x: u64) -> u64 {
-        rotr(x ^ rotr(x, 61 - 19), 19) ^ (x >> 6)
+        (x ^ x.rotate_right(61 - 19)).rotate_right(19) ^ (x >> 6)
     }
 
     fn constant(k: &Table, t: usize) -> u64 {
@@ -65,7 +57,16 @@ impl Word for u64 {
     }
 
     fn read(b: &[u8], at: usize) -> u64 {
-        word64(b, at)
+        u64::from_be_bytes([
+            b[at],
+            b[at + 1],
+            b[at + 2],
+            b[at + 3],
+            b[at + 4],
+            b[at + 5],
+            b[at + 6],
+            b[at + 7],
+        ])
     }
 
     ghost sizes = { wide_sizes };

@@ -1,4 +1,3 @@
-pub mod Buffers
 pub mod Starts
 pub mod Typed
 pub mod Messages

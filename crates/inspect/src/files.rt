@@ -30,7 +30,8 @@ pub(crate) fn open<R: Env + Files>(rt: &R, place: usize) -> io::Result<R::File> 
 }
 
 // Reads until the space is full, the file ends or a read fails, and answers how many bytes came. A read may give fewer bytes than were
-// asked for, as from a pipe. It stays a `while`: no method of a reader does this in place and says how many bytes came.
+// asked for, as from a pipe. It stays a `while`: `read_exact` does not say how many bytes came before the end, and `io::copy`, which
+// does, reads again where a signal interrupts it, and no contract of it holds that count to the space.
 pub(crate) fn fill(file: &mut impl Read, space: &mut [u8]) -> io::Result<usize>
     ensures { IfOk result (λ came. came ≤ length space.new) }
 {

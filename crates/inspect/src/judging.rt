@@ -1,11 +1,11 @@
 // The judgement on a report that reading lets pass: its tag and its fingerprint, under the keys of its machine.
-ghost use Rattle.std.specs.Prelude.{◌≡◌, ◌≤◌, IfOk};
+ghost use Rattle.std.specs.Prelude.{◌≡◌, ◌<◌, ◌≤◌, IfOk, IfErr};
 ghost use Rattle.algorithm.specs.Refusals.{tag_differs};
-ghost use Rattle.algorithm.specs.Answers.{number};
+ghost use Rattle.algorithm.specs.Answers.{number_of, number};
 ghost use Rattle.report.specs.Calls.{reading_by};
 ghost use Rattle.inspect.specs.Judging.{verdict_under, fingerprint_under, verdict_by, judged_of};
 
-use algorithm::Refusal;
+use algorithm::{Hash, Refusal};
 use report::Reading;
 
 // What a report turns out to be under keys that serve: whether its tag matches or differs, and its fingerprint.
@@ -20,6 +20,7 @@ pub struct Judged {
 fn judge_under(report: &[u8], keys: &[u8]) -> Result<Judged, Refusal>
     ensures number { verdict_by result ≡ verdict_under report.now keys.now }
     ensures compared { IfOk result (λ judged. number judged.tag ≤ tag_differs) }
+    ensures refused { IfErr result (λ refusal. tag_differs < number_of refusal) }
     ensures fingerprint { IfOk result (λ judged. judged.fingerprint ≡ fingerprint_under report.now keys.now) }
 {
     let (tag_key, fingerprint_key) = keys.split_at(keys.len() / 2);
@@ -39,10 +40,11 @@ pub(crate) fn judge(report: &[u8], read: Reading, prk: &[u8]) -> Result<Judged, 
     ensures number { verdict_by result ≡ judged_of report.now (reading_by (Ok read)) prk.now }
     ensures compared { IfOk result (λ judged. number judged.tag ≤ tag_differs) }
 {
+    let number = u32::from(read.hash);
+    let hash = Hash::try_from(number)?;
     let mut space = [0; 128];
-    let size = if read.hash == 1 { 64 } else { 128 };
-    let keys = &mut space[..size];
-    report::keys(read.hash.into(), prk, read.tenant, read.machine, keys)?;
+    let keys = &mut space[..2 * algorithm::digest_size(hash)];
+    report::keys(number, prk, read.tenant, read.machine, keys)?;
     judge_under(report, keys)
 }
 

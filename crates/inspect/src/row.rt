@@ -2,28 +2,16 @@
 use crate::judging::Judged;
 use crate::meanings;
 use algorithm::Refusal;
+use octets::Hex;
 use report::Reading;
 use std::fmt::Display;
-use std::{fmt, io};
+use std::io;
 
 // A line: the offset, the other columns of numbers, the verdict and the fingerprint.
 macro_rules! say_cells {
     ($rt:expr; $($cell:expr),+) => {
         println!($rt; "{:>20}{:>11}{:>21}{:>21}{:>8}{:>21}{:>6}{:>21}{:>21} {:<44} {}", $($cell),+)
     };
-}
-
-// Bytes, as two digits each.
-#[derive(Clone, Copy)]
-struct Hex<'a>(&'a [u8]);
-
-impl Display for Hex<'_> {
-    fn fmt<W: fmt::Write>(&self, f: &mut fmt::Formatter<W>) -> fmt::Result {
-        for byte in self.0 {
-            write!(f, "{byte:02x}")?;
-        }
-        Ok(())
-    }
 }
 
 // The names of the columns.

@@ -57,7 +57,7 @@ answer_by (Ok answers.Answer.New) = New
 answer_by (Ok answers.Answer.Seen) = Seen
 answer_by (Err e) = Refused (number_of e)
 
--- submit(records, report, tag_key, fingerprint_key)
+-- submit(records, submission)
 abbrev pub submit_checks : List Record → Submission → List Check
 submit_checks rs x = check (sound rs) state_not_sound ∷ report_checks x ++ room_checks rs x
 
@@ -66,8 +66,8 @@ submit_answer rs x =
     let cs : List Check = submit_checks rs x in
     decided cs (cond (taken (fingerprint_in x) rs) (Seen, rs) (New, entered (record_of x) rs)) (Refused (first_failing cs), rs)
 
-abbrev pub SubmitOutcome : List Record → List ℕ → List ℕ → List ℕ → Answer → List Record → Type 0
-SubmitOutcome rs s tag_key fingerprint_key r after = ◌≡◌ {A = Answer × List Record} (r, after) (submit_answer rs (submission s tag_key fingerprint_key))
+abbrev pub SubmitOutcome : List Record → Submission → Answer → List Record → Type 0
+SubmitOutcome rs x r after = ◌≡◌ {A = Answer × List Record} (r, after) (submit_answer rs x)
 
 -- the records after a sequence of submissions
 unfoldable pub after_all : List Submission → List Record → List Record

@@ -6,11 +6,13 @@ mod entering;
 mod judging;
 mod records;
 mod searching;
+mod submission;
 mod submitting;
 mod surveying;
 mod totals;
 
 pub use answers::{Answer, answer_number, answer_seen};
 pub use records::Record;
+pub use submission::Submission;
 pub use submitting::submit;
 pub use totals::total;

@@ -1,4 +1,5 @@
-// One record of a ledger: its layout, and what is asked of one or two of them alone.
+// One record of a ledger: its layout, and what is asked of one or two of them alone. They are lent for that, since a copy would be made
+// byte by byte.
 ghost use Rattle.std.specs.Prelude.{◌≡◌};
 ghost use Rattle.octets.specs.Same.{equal};
 ghost use Rattle.ledger.specs.Records.{used, is_zero};
@@ -13,14 +14,14 @@ pub struct Record {
     pub in_use: u64,
 }
 
-pub(crate) fn is_used(record: Record) -> bool
-    ensures { result ≡ used «record» }
+pub(crate) fn is_used(record: &Record) -> bool
+    ensures { result ≡ used «record».now }
 {
     record.in_use == 1
 }
 
-pub(crate) fn is_zero(record: Record) -> bool
-    ensures { result ≡ is_zero «record» }
+pub(crate) fn is_zero(record: &Record) -> bool
+    ensures { result ≡ is_zero «record».now }
 {
     record.in_use == 0 && record.live == 0 && octets::all_zero(&record.fingerprint)
 }
@@ -34,8 +35,8 @@ fn first_word(fingerprint: [u8; 32]) -> u64
 }
 
 // Whether two records have one fingerprint. Most pairs of different ones differ in the first word, which costs one comparison.
-pub(crate) fn same_fingerprint(a: Record, b: Record) -> bool
-    ensures { result ≡ equal a.fingerprint b.fingerprint }
+pub(crate) fn same_fingerprint(a: &Record, b: &Record) -> bool
+    ensures { result ≡ equal a.now.fingerprint b.now.fingerprint }
 {
     first_word(a.fingerprint) == first_word(b.fingerprint)
         && octets::same(&a.fingerprint, &b.fingerprint)

@@ -6,32 +6,31 @@ use crate::records::{Record, is_used, is_zero};
 use crate::searching::among;
 use algorithm::Refusal;
 
-// What is known of the records so far: whether they are in order, that is used before free, free ones all zero and no fingerprint
-// twice; whether a free one was met; how many are used; and the sum of their live bytes.
+// What is known of the records so far: whether a free one was met; how many are used; and the sum of their live bytes, none where it
+// passed 2^64 - 1 or where they are out of order, that is not used before free, free ones all zero and no fingerprint twice.
 #[derive(Clone, Copy)]
 pub(crate) struct Tally {
-    pub ordered: bool,
     pub free: bool,
     pub used: usize,
     pub sum: Option<u64>,
 }
 
 // One record more, after the earlier ones.
-fn with_record(tally: Tally, record: Record, earlier: &[Record]) -> Tally
+fn with_record(tally: Tally, record: &Record, earlier: &[Record]) -> Tally
     requires { tally.used + 1 < 2 ^ 64 }
-    ensures { result ≡ with_record tally «record» (among «record».fingerprint earlier.now) }
+    ensures { result ≡ with_record tally «record».now (among «record».now.fingerprint earlier.now) }
 {
     if is_used(record) {
+        let sum = octets::plus(tally.sum, record.live);
         Tally {
-            ordered: tally.ordered && !tally.free && !among(earlier, record),
             used: tally.used + 1,
-            sum: octets::plus(tally.sum, record.live),
+            sum: sum.filter(|_| !tally.free && !among(earlier, record)),
             ..tally
         }
     } else {
         Tally {
-            ordered: tally.ordered && is_zero(record),
             free: true,
+            sum: tally.sum.filter(|_| is_zero(record)),
             ..tally
         }
     }
@@ -41,9 +40,6 @@ fn with_record(tally: Tally, record: Record, earlier: &[Record]) -> Tally
 pub(crate) fn sum_in(tally: Tally) -> Result<u64, Refusal>
     ensures { result ≡ sum_in tally }
 {
-    if !tally.ordered {
-        return Err(Refusal::StateNotSound);
-    }
     tally.sum.ok_or(Refusal::StateNotSound)
 }
 
@@ -51,13 +47,12 @@ pub(crate) fn survey(records: &[Record]) -> Tally
     ensures { result ≡ tally_of records.now }
 {
     let mut tally = Tally {
-        ordered: true,
         free: false,
         used: 0,
         sum: Some(0),
     };
     for (i, record) in records.iter().enumerate() {
-        tally = with_record(tally, *record, &records[..i]);
+        tally = with_record(tally, record, &records[..i]);
     }
     tally
 }

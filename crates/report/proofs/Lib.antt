@@ -1,3 +1,4 @@
+pub mod BigEndian
 pub mod Walking
 pub mod Checked
 pub mod Parts

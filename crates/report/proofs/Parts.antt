@@ -13,34 +13,26 @@ use borrow.Rule.Slice.PartMut.{put_mid}
 use Rattle.octets.specs.Copy.{over}
 use Rattle.octets.specs.Copy.Laws.{over_length, over_short}
 use Rattle.octets.specs.Every.{every}
-use Rattle.octets.specs.Every.Laws.{and_parts, every_at}
+use Rattle.octets.specs.Every.Laws.{and_parts}
 use Rattle.octets.specs.Parts.{part_put, over_paste, over_more}
 use Rattle.octets.specs.Number.{bytes}
 use Rattle.octets.specs.Number.Laws.{bytes_length}
 use Rattle.octets.specs.Sums.{sum_of}
 use Rattle.octets.specs.Sums.Laws.{sum_more, sum_part}
 use Rattle.algorithm.specs.declared.hashes.Hash.{Hash}
-use Rattle.algorithm.specs.Hashes.{hash_of, block_of, allowed}
-use Rattle.algorithm.specs.Hashes.Laws.{block_most}
+use Rattle.algorithm.specs.Hashes.{hash_number, hash_of, block_of, allowed}
+use Rattle.algorithm.specs.Hashes.Laws.{half_digest, block_most, length_allowed, number_names, number_back}
 use Rattle.algorithm.specs.Refusals.{done, most_bytes}
 use Rattle.algorithm.specs.Checks.{written}
-use Rattle.algorithm.specs.Answers.{number}
-use Rattle.algorithm.specs.Answers.Laws.{refusal_not_done}
-use Rattle.algorithm.specs.declared.refusals.Refusal.{Refusal}
-use Rattle.std.specs.Prelude.{Result, Ok, Err}
-use Rattle.std.specs.Result.{IsOk}
-use borrow.Author.Rules.{rules}
 use Rattle.hmac.specs.Hmac.{tag_of}
 use Rattle.hmac.specs.Hmac.Laws.{tag_length_lem}
 use Rattle.hmac.specs.Calls.{tag_message_answer}
 use Rattle.hmac.specs.Calls.Laws.{tag_message_accepted}
 use Rattle.report.specs.Layout.{Site, site_bytes, sites_bytes}
-use Rattle.report.specs.Reading.{hash_named}
-use Rattle.report.specs.Reading.Laws.{tag_half}
 use Rattle.report.specs.Writing.{Columns, site_from, sites_from, sites_of, label_fits}
 use Rattle.report.specs.Writing.Reads.{site_length}
 use Rattle.report.specs.Writing.Inside.{ColumnsFit, Next, site_next, NextPut, Room, tagged, Taggable}
-use Rattle.report.specs.Calls.Laws.{report_hash, tag_allowed}
+use Rattle.report.specs.declared.plans.Plan.{Plan}
 
 -- lengths in their range add up to little
 sum_most : (l : List ℕ) → every label_fits l ≡ true → sum_of l ≤ length l * 48
@@ -221,26 +213,33 @@ module _ {c : Columns} {i from : ℕ} {out : List ℕ} (x : Next c i from out) w
       (ey ∙ ap (λ (z : Site). over (site_bytes z) (take n (drop (from + 13 * i) out))) same)
 
 -- the tag that HMAC writes, and its place after the first bytes
-module _ {n : ℕ} {key : List ℕ} {at size : ℕ} {out : List ℕ} (t : Taggable n key at size out) where
+module _ {key : List ℕ} {p : Plan} {out : List ℕ} (t : Taggable key p out) where
+  abbrev at : ℕ
+  at = p.body_size
+
+  abbrev size : ℕ
+  size = p.tag_size
+
   abbrev tag_is : List ℕ
-  tag_is = tag_of (hash_named n) key size (take at out)
+  tag_is = tag_of p.hash key size (take at out)
 
   -- of all bytes up to there, as they are lent
-  module _ (z : List ℕ) (ez : length z ≡ size) {r : ℕ} {a : List ℕ}
+  module _ (z : List ℕ) (ez : length z ≡ size) {n r : ℕ} {a : List ℕ} (en : n ≡ hash_number p.hash)
       (e : ◌≡◌ {A = ℕ × List ℕ} (r, a) (tag_message_answer n key (take (at - 0) out) size z)) where
     answer : ◌≡◌ {A = ℕ × List ℕ} (r, a) (written done tag_is)
     answer =
-        let named = report_hash n t.known in
+        let m : ℕ = hash_number p.hash in
+        let back : hash_of m ≡ p.hash = number_back p.hash in
         let lent : at - 0 ≡ at = omega arith in
         let body : length (take at out) ≡ at = length-take-le at out (omega (arith, t.room)) in
-        let fits : length (take at out) ≤ most_bytes - block_of (hash_of n) = omega (arith, t.short, block_most (hash_of n)) in
-        let asked : allowed (hash_of n) size ≡ true =
-        (λ i. allowed (named.1 i) (t.tag i)) ∙ tag_allowed n
+        let fits : length (take at out) ≤ most_bytes - block_of (hash_of m) = omega (arith, t.short, block_most (hash_of m)) in
+        let asked : allowed (hash_of m) size ≡ true =
+        ap (λ (h : Hash). allowed h size) back ∙ length_allowed p.hash size (omega (arith, t.tag, half_digest p.hash)) (omega (arith, t.tag))
         in
         e
-        ∙ ap (λ (k : ℕ). tag_message_answer n key (take k out) size z) lent
-        ∙ tag_message_accepted n key (take at out) size z named.0 t.key_fits fits asked ez
-        ∙ ap (λ (h : Hash). written done (tag_of h key size (take at out))) named.1
+        ∙ (λ i. tag_message_answer (en i) key (take (lent i) out) size z)
+        ∙ tag_message_accepted m key (take at out) size z (number_names p.hash) t.key_fits fits asked ez
+        ∙ ap (λ (h : Hash). written done (tag_of h key size (take at out))) back
 
     pub tag_done : r ≡ done
     tag_done = ap (λ (w : ℕ × List ℕ). w.0) answer
@@ -249,10 +248,10 @@ module _ {n : ℕ} {key : List ℕ} {at size : ℕ} {out : List ℕ} (t : Taggab
     tag_made = ap (λ (w : ℕ × List ℕ). w.1) answer
 
   made_size : {a : List ℕ} → a ≡ tag_is → length a ≡ size
-  made_size e = ap length e ∙ tag_length_lem (hash_named n) key size (take at out) (omega (arith, t.tag, tag_half n))
+  made_size e = ap length e ∙ tag_length_lem p.hash key size (take at out) (omega (arith, t.tag))
 
   pub tag_put : (a d y : List ℕ) → a ≡ tag_is → y ≡ over (take size (a ++ d)) (take (length out - at) (drop at out))
-      → put_mid at (length out - at) out y ≡ tagged n key at size out
+      → put_mid at (length out - at) out y ≡ tagged key p out
   tag_put a d y ea ey =
       let long : length tag_is ≡ size = made_size refl in
       let e : take size (a ++ d) ≡ tag_is = take_at a d size (made_size ea) ∙ ea in

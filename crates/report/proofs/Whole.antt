@@ -14,6 +14,7 @@ use Rattle.octets.specs.Copy.{over}
 use Rattle.octets.specs.Copy.Laws.{over_length, over_short}
 use Rattle.octets.specs.Parts.{over_more}
 use Rattle.octets.specs.Number.Laws.{bytes_length}
+use Rattle.algorithm.specs.Hashes.{size_of}
 use Rattle.algorithm.specs.Refusals.{done, buffer_too_short}
 use Rattle.algorithm.specs.Checks.{Check, check, first_failing}
 use Rattle.algorithm.specs.Checks.Laws.{append_refuses, append_passes, done_passes}
@@ -24,7 +25,7 @@ use Rattle.algorithm.specs.declared.refusals.Refusal.TheVariants.{BufferTooShort
 use Rattle.hmac.specs.Hmac.{tag_of}
 use Rattle.report.specs.Layout.{Site, Fields, sites_bytes, bytes_of, tag_size_of}
 use Rattle.report.specs.Reading.{hash_named}
-use Rattle.report.specs.Reading.Laws.{tag_most}
+use Rattle.report.specs.Reading.Laws.{tag_half}
 use Rattle.report.specs.Writing.{Columns, sites_of, fields_from, tag_for, report_of}
 use Rattle.report.specs.Writing.Reads.{body_length}
 use Rattle.report.specs.Writing.Inside.{ColumnsFit, Planned, Accepted, plan_checks, body_size_of, Plan, plan_by, plan_of, head_bytes, tagged, Taggable, Filling}
@@ -32,6 +33,7 @@ use Rattle.report.specs.Calls.{key_checks, write_checks, written_by, WriteOutcom
 use Rattle.report.specs.Calls.Laws.{key_fits, key_refusing}
 use Rattle.report.specs.Calls.RoundTrip.{tag_size_lem, sites_length}
 use Rattle.report.specs.Calls.Write.{plan_refusing, planned, write_accepted, write_refused}
+use Rattle.report.specs.declared.plans.Plan as plans
 use Rattle.report.specs.declared.writing.Heading.{Heading}
 use Rattle.report.proofs.Parts.{labels_most, sites_size}
 
@@ -61,7 +63,13 @@ module _ (h : Heading) (c : Columns) (key : List ℕ) (r : ColumnsFit c) where
   report_size = omega (arith, length-append (bytes_of made) (tag_for made key), body_is, tag_size_lem made key)
 
 -- a report that may be written
-module _ {h : Heading} {c : Columns} {key : List ℕ} {body tag : ℕ} {out : List ℕ} (F : Filling h c key body tag out) where
+module _ {h : Heading} {c : Columns} {key : List ℕ} {p : plans.Plan} {out : List ℕ} (F : Filling h c key p out) where
+  abbrev body : ℕ
+  body = p.body_size
+
+  abbrev tag : ℕ
+  tag = p.tag_size
+
   abbrev fit : ColumnsFit c
   fit = F.planned.columns_fit
 
@@ -89,18 +97,17 @@ module _ {h : Heading} {c : Columns} {key : List ℕ} {body tag : ℕ} {out : Li
         ∙ ap (λ (l : List ℕ). over l out) spelled
 
     -- the tag has room after them
-    pub taggable : Taggable h.hash key body tag before_tag_lem
+    pub taggable : Taggable key p before_tag_lem
     taggable = record {
-      known = F.planned.known;
       key_fits = F.key_fits;
-      tag = F.after;
+      tag = omega (arith, F.after, tag_half h.hash, ap size_of F.hash);
       least = omega (arith, F.before);
       short = omega (arith, F.before, fit.few, labels_most fit);
       room = omega (arith, F.room, ap length body_put, over_length (bytes_of made_fields) out);
     }
 
     -- and with it they are the report
-    pub filled : (z : List ℕ) → z ≡ tagged h.hash key body tag before_tag_lem → z ≡ over (report_of made_fields key) out
+    pub filled : (z : List ℕ) → z ≡ tagged key p before_tag_lem → z ≡ over (report_of made_fields key) out
     unfolding report_of
     filled z ez =
         let text : List ℕ = bytes_of made_fields in
@@ -118,7 +125,7 @@ module _ {h : Heading} {c : Columns} {key : List ℕ} {body tag : ℕ} {out : Li
         ∙ ap (λ (k : ℕ). drop k out) (ap (λ (k : ℕ). k + tag) long ∙ sym whole)
         in
         ez
-        ∙ (λ i. front i ++ (tag_of (hash_named h.hash) key (F.after i) (front i) ++ back i))
+        ∙ (λ i. front i ++ (tag_of (F.hash i) key (F.after i) (front i) ++ back i))
         ∙ sym (append_assoc text (tag_for made_fields key) (drop (length (text ++ tag_for made_fields key)) out))
         ∙ sym (over_short (text ++ tag_for made_fields key) out (omega (arith, F.room)))
 
@@ -138,20 +145,23 @@ module _ (h : Heading) (c : Columns) (key out : List ℕ) where
       let n : number_of e ≡ first_failing (plan_checks h.hash c) = ap (λ (x : Plan). x.number) is in
       refused e (append_refuses (plan_checks h.hash c) (key_checks key ++ buffer) (λ d. refusal_not_done e (n ∙ d)) ∙ sym n)
 
-  module _ {body tag : ℕ} (is : ◌≡◌ {A = Plan} (record { number = done; body_size = body; tag_size = tag }) (plan_of h.hash c)) where
+  module _ {p : plans.Plan} (is : plan_by (Ok p) ≡ plan_of h.hash c) where
     passes : first_failing (plan_checks h.hash c) ≡ done
     passes = sym (ap (λ (x : Plan). x.number) is)
 
     plan : Planned h.hash c
     plan = planned h.hash c passes
 
-    before : body ≡ body_size_of c
+    hash : p.hash ≡ hash_named h.hash
+    hash = ap (λ (x : Plan). x.hash) is ∙ rw passes
+
+    before : p.body_size ≡ body_size_of c
     before = ap (λ (x : Plan). x.body_size) is ∙ rw passes
 
-    after : tag ≡ tag_size_of h.hash
+    after : p.tag_size ≡ tag_size_of h.hash
     after = ap (λ (x : Plan). x.tag_size) is ∙ rw passes
 
-    size : length report ≡ body + tag
+    size : length report ≡ p.body_size + p.tag_size
     size = report_size h c key plan.columns_fit ∙ sym (λ i. before i + after i)
 
     last : first_failing (write_checks h c key out) ≡ first_failing (key_checks key ++ buffer)
@@ -161,15 +171,15 @@ module _ (h : Heading) (c : Columns) (key out : List ℕ) where
     key_refused e n = refused e (last ∙ append_refuses (key_checks key) buffer (λ d. refusal_not_done e (n ∙ d)) ∙ sym n)
 
     module _ (k : done ≡ first_failing (key_checks key)) where
-      pub too_short : length out < body + tag → WriteOutcome h c key out (written_by (Err BufferTooShort)) out
+      pub too_short : length out < p.body_size + p.tag_size → WriteOutcome h c key out (written_by (Err BufferTooShort)) out
       too_short l =
           let fails : leb (length report) (length out) ≡ false = lt-leb (length report) (length out) (omega (arith, size)) in
           refused BufferTooShort (last ∙ append_passes (key_checks key) buffer (sym k) (key_refusing key) ∙ rw fails)
 
-      pub filling : body + tag ≤ length out → Filling h c key body tag out
-      filling fits = record { planned = plan; key_fits = key_fits key (sym k); before = before; after = after; room = fits }
+      pub filling : p.body_size + p.tag_size ≤ length out → Filling h c key p out
+      filling fits = record { planned = plan; key_fits = key_fits key (sym k); hash = hash; before = before; after = after; room = fits }
 
-      pub wrote : body + tag ≤ length out → {z : List ℕ} → z ≡ over report out → WriteOutcome h c key out (written_by (Ok (body + tag))) z
+      pub wrote : p.body_size + p.tag_size ≤ length out → {z : List ℕ} → z ≡ over report out → WriteOutcome h c key out (written_by (Ok (p.body_size + p.tag_size))) z
       wrote fits {z} ez =
           let key_passes = done_passes (key_checks key) (key_refusing key) (sym k) in
           let a : Accepted h c key out = record { planned = plan; key_passes = key_passes; room = omega (arith, size) } in

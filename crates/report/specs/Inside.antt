@@ -1,12 +1,14 @@
 -- Private: what the private functions ask and promise, and what the laws on the way to the calls speak of. Assumes nothing.
-use Rattle.std.specs.Prelude.{◌≡◌, Bool, true, false, cond, ◌&&◌, List, [], ◌∷◌, ◌++◌, ℕ, suc, ◌+◌, ◌-◌, ◌*◌, ◌^◌, ◌≤◌, ◌<◌, leb, length, take, drop, get_or, Result, Ok, Err, Option, Some, None}
+use Rattle.std.specs.Prelude.{◌≡◌, Bool, true, false, ◌&&◌, List, [], ◌∷◌, ◌++◌, ℕ, suc, ◌+◌, ◌-◌, ◌*◌, ◌≤◌, ◌<◌, leb, length, take, drop, get_or, Result, Ok, Err, Option, Some, None}
 use Rattle.octets.specs.Number.{number_at, bytes}
 use Rattle.octets.specs.Sums.{largest_total}
-use Rattle.algorithm.specs.Hashes.{names, hash_of, block_of, size_of}
+use Rattle.algorithm.specs.Hashes.{block_of, size_of}
+use Rattle.algorithm.specs.declared.hashes.Hash.{Hash}
+use Rattle.algorithm.specs.declared.hashes.Hash.TheVariants.{Sha256}
 use Rattle.algorithm.specs.Refusals.{done, sites_misplaced, sum_too_large, most_bytes}
 use Rattle.algorithm.specs.Checks.{Check, first_failing, decided}
 use Rattle.report.specs.Layout.{Site, Fields, sites_bytes, smallest_report, live_of}
-use Rattle.report.specs.Reading.{names_hash, tag_size_in, tag_start, first_site, with_site, read_sites, sites_in, start_checks, hash_checks, sites_checks, read_checks, fields_of, no_fields}
+use Rattle.report.specs.Reading.{names_hash, hash_in, tag_size_in, tag_start, first_site, with_site, read_sites, sites_in, start_checks, hash_checks, sites_checks, read_checks, fields_of, no_fields}
 use Rattle.report.specs.Calls.{Reading, reading_of, site_of, before}
 use Rattle.algorithm.specs.Answers.{number_of, valued}
 use Rattle.algorithm.specs.declared.refusals.Refusal.{Refusal}
@@ -40,11 +42,6 @@ pub record Passed (s : List ℕ) : Type 0 where
   pub placed : (sites_in s).0 ≡ done
   pub live : live_of (sites_in s).1 ≤ largest_total
   pub sites : length (sites_in s).1 ≡ number_at s 43 2
-
--- a number is that of some bytes from a place on, and so has so many bits
-pub record NumberIs (s : List ℕ) (at size n : ℕ) : Type 0 where
-  pub is : n ≡ number_at s at size
-  pub below : n < 256 ^ size
 
 -- the site that starts at a place
 abbrev pub site_here : List ℕ → ℕ → Site
@@ -100,30 +97,35 @@ pub record Walked (body : List ℕ) (sites : ℕ) (r : Counted) : Type 0 where
   pub number : r.number ≡ first_failing (sites_checks (read_sites sites (drop 45 body)))
   pub live : r.number ≡ done → r.live ≡ live_of (read_sites sites (drop 45 body)).1
 
--- the checks before the sites, with where the tag starts
+-- the checks before the sites, with the hash and where the tag starts
 abbrev pub head_checks : List ℕ → List Check
 head_checks s = start_checks s ++ hash_checks s
 
 pub record Head : Type 0 where
   pub number : ℕ
+  pub hash : Hash
   pub end : ℕ
 
-abbrev pub head_by : Result ℕ Refusal → Head
-head_by r = let a = valued 0 r in record { number = a.0; end = a.1 }
+abbrev pub head_by : Result (Hash × ℕ) Refusal → Head
+head_by r = let a = valued (Sha256, 0) r in record { number = a.0; hash = a.1.0; end = a.1.1 }
 
 abbrev pub head_of : List ℕ → Head
-head_of s = record { number = first_failing (head_checks s); end = decided (head_checks s) (tag_start s) 0 }
+head_of s = record {
+  number = first_failing (head_checks s);
+  hash = decided (head_checks s) (hash_in s) Sha256;
+  end = decided (head_checks s) (tag_start s) 0;
+}
 
 -- all checks, with what they found out
 pub record Checked : Type 0 where
   pub number : ℕ
-  pub hash : ℕ
+  pub hash : Hash
   pub end : ℕ
   pub sites : ℕ
   pub live : ℕ
 
 abbrev pub stopped : ℕ → Checked
-stopped n = record { number = n; hash = 0; end = 0; sites = 0; live = 0 }
+stopped n = record { number = n; hash = Sha256; end = 0; sites = 0; live = 0 }
 
 abbrev pub checked_by : Result checks.Checked Refusal → Checked
 checked_by (Ok c) = record { number = done; hash = c.hash; end = c.end; sites = c.sites; live = c.live }
@@ -132,7 +134,7 @@ checked_by (Err e) = stopped (number_of e)
 abbrev pub checked_of : List ℕ → Checked
 checked_of s = record {
   number = first_failing (read_checks s);
-  hash = decided (read_checks s) (number_at s 5 1) 0;
+  hash = decided (read_checks s) (hash_in s) Sha256;
   end = decided (read_checks s) (tag_start s) 0;
   sites = decided (read_checks s) (number_at s 43 2) 0;
   live = decided (read_checks s) (live_of (sites_in s).1) 0;
@@ -173,16 +175,13 @@ pub record StartIs (body : List ℕ) (place at : ℕ) : Type 0 where
   pub room : at + get_or body at 0 + 13 ≤ length body
 
 -- a key and two pieces that HMAC takes, and an output for a fingerprint
-pub record TwoPieces (n : ℕ) (key first second out : List ℕ) : Type 0 where
-  pub known : names_hash n ≡ true
+pub record TwoPieces (h : Hash) (key first second out : List ℕ) : Type 0 where
   pub key_fits : length key ≤ most_bytes
-  pub fits : length first + length second ≤ most_bytes - block_of (hash_of n)
+  pub fits : length first + length second ≤ most_bytes - block_of h
   pub size : length out ≡ 32
 
 -- a PRK that expand takes, and an output for both keys
-pub record Derivable (n size : ℕ) (prk out : List ℕ) : Type 0 where
-  pub known : names n ≡ true
-  pub digest : size ≡ size_of (hash_of n)
+pub record Derivable (h : Hash) (prk out : List ℕ) : Type 0 where
   pub fits : length prk ≤ most_bytes
-  pub long : size ≤ length prk
-  pub room : length out ≡ 2 * size
+  pub long : size_of h ≤ length prk
+  pub room : length out ≡ 2 * size_of h

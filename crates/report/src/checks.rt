@@ -6,10 +6,12 @@ ghost use Rattle.report.specs.Reading.{start_checks};
 ghost use Rattle.report.specs.Calls.{key_checks};
 ghost use Rattle.report.specs.Inside.{head_of, head_by, checked_of, checked_by};
 
-use crate::format::{HEAD, MOST_SITES, SHORTEST_REPORT_KEY, SMALLEST_REPORT, hash_named, tag_size};
-use crate::numbers::number_at;
+use crate::format::{
+    COUNT_END, HEAD, MOST_SITES, SHORTEST_REPORT_KEY, SMALLEST_REPORT, hash_named, tag_size,
+};
+use crate::numbers::{u8_at, u16_at, u32_at};
 use crate::walk;
-use algorithm::Refusal;
+use algorithm::{Hash, Refusal};
 
 // The checks of length, count and version.
 fn check_start(report: &[u8]) -> Result<(), Refusal>
@@ -18,37 +20,36 @@ fn check_start(report: &[u8]) -> Result<(), Refusal>
     if report.len() < SMALLEST_REPORT {
         return Err(Refusal::WrongReportLength);
     }
-    if number_at(report, 0, 4) != (report.len() - 4) as u64 {
+    if u32_at(report, 0) as usize != report.len() - COUNT_END {
         return Err(Refusal::WrongReportLength);
     }
-    if number_at(report, 4, 1) != 1 {
+    if u8_at(report, 4) != 1 {
         return Err(Refusal::UnknownVersion);
     }
     Ok(())
 }
 
-// The checks before the sites, and where the tag starts.
-fn check_head(report: &[u8]) -> Result<usize, Refusal>
+// The checks before the sites; which hash the report names, and where its tag starts.
+fn check_head(report: &[u8]) -> Result<(Hash, usize), Refusal>
     ensures { head_by result ≡ head_of report.now }
 {
     check_start(report)?;
-    let hash = number_at(report, 5, 1) as u32;
-    hash_named(hash)?;
+    let hash = hash_named(u8_at(report, 5).into())?;
     let tag = tag_size(hash);
     if report.len() < HEAD + tag {
         return Err(Refusal::WrongReportLength);
     }
-    if MOST_SITES < number_at(report, 43, 2) {
+    if MOST_SITES < u64::from(u16_at(report, 43)) {
         return Err(Refusal::TooManySites);
     }
-    Ok(report.len() - tag)
+    Ok((hash, report.len() - tag))
 }
 
-// What all checks find out of a report that they let pass: its hash's number, where its tag starts, how many sites it has and the sum
+// What all checks find out of a report that they let pass: its hash, where its tag starts, how many sites it has and the sum
 // of their live bytes.
 #[derive(Clone, Copy)]
 pub struct Checked {
-    pub hash: u32,
+    pub hash: Hash,
     pub end: usize,
     pub sites: u64,
     pub live: u64,
@@ -57,11 +58,11 @@ pub struct Checked {
 pub(crate) fn check_report(report: &[u8]) -> Result<Checked, Refusal>
     ensures { checked_by result ≡ checked_of report.now }
 {
-    let end = check_head(report)?;
-    let sites = number_at(report, 43, 2);
+    let (hash, end) = check_head(report)?;
+    let sites = u64::from(u16_at(report, 43));
     let live = walk::walk_sites(&report[..end], sites)?;
     Ok(Checked {
-        hash: number_at(report, 5, 1) as u32,
+        hash,
         end,
         sites,
         live,

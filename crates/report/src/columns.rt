@@ -24,8 +24,7 @@ pub struct Columns<'a> {
 fn label_fits(length: u32) -> bool
     ensures { result ≡ label_fits length }
 {
-    let size = length as usize;
-    1 <= size && size <= LONGEST_LABEL
+    (1..=LONGEST_LABEL).contains(&(length as usize))
 }
 
 // Whether every label may be as long as it is.
@@ -40,22 +39,15 @@ fn sum_lengths(lengths: &[u32]) -> u64
     requires { length lengths.now ≤ 64 }
     ensures { result ≡ sum_of lengths.now }
 {
-    let mut sum: u64 = 0;
-    for length in lengths {
-        sum += u64::from(*length);
-    }
-    sum
+    lengths.iter().map(|length| u64::from(*length)).sum()
 }
 
 // The sum of the live bytes; none where it passed 2^64 - 1.
 fn sum_live(live: &[u64]) -> Option<u64>
     ensures { SumIs result (sum_of live.now) }
 {
-    let mut sum = Some(0);
-    for bytes in live {
-        sum = octets::plus(sum, *bytes);
-    }
-    sum
+    live.iter()
+        .fold(Some(0), |sum, bytes| octets::plus(sum, *bytes))
 }
 
 // 6 where the slices are of unequal length, 13 where there are too many sites, 14 where a label's length is out of range, 15 where the

@@ -1,13 +1,12 @@
 // The two keys of a machine, from one PRK.
 ghost use Rattle.std.specs.Prelude.{◌≡◌};
 ghost use Rattle.algorithm.specs.Answers.{number};
-ghost use Rattle.algorithm.specs.Hashes.{hash_of};
 ghost use Rattle.report.specs.Keys.{info_of, keys_of};
 ghost use Rattle.report.specs.Calls.{KeysOutcome};
 ghost use Rattle.report.specs.Inside.{Derivable};
 
 use crate::format::hash_named;
-use algorithm::Refusal;
+use algorithm::{Hash, Refusal};
 
 // The purposes of a key.
 const TAG: u8 = 1;
@@ -26,14 +25,15 @@ fn info(purpose: u8, tenant: u32, machine: u64) -> [u8; 16]
 }
 
 // Both keys, each of a digest's size.
-fn derive(hash_number: u32, size: usize, prk: &[u8], tenant: u32, machine: u64, out: &mut [u8])
-    requires { Derivable hash_number size prk.now out.old }
-    ensures { out.new ≡ keys_of (hash_of hash_number) prk.now tenant machine }
+fn derive(hash: Hash, prk: &[u8], tenant: u32, machine: u64, out: &mut [u8])
+    requires { Derivable hash prk.now out.old }
+    ensures { out.new ≡ keys_of hash prk.now tenant machine }
 {
     let tag_info = info(TAG, tenant, machine);
     let fingerprint_info = info(FINGERPRINT, tenant, machine);
-    hkdf::expand(hash_number, prk, &tag_info, &mut out[..size]).unwrap();
-    hkdf::expand(hash_number, prk, &fingerprint_info, &mut out[size..]).unwrap();
+    let (tag_key, fingerprint_key) = out.split_at_mut(algorithm::digest_size(hash));
+    hkdf::expand(hash.into(), prk, &tag_info, tag_key).unwrap();
+    hkdf::expand(hash.into(), prk, &fingerprint_info, fingerprint_key).unwrap();
 }
 
 // The tag key, then the fingerprint key; 2 where no report names the hash, 3 where the PRK is too long, 6 where the output has not the
@@ -58,6 +58,6 @@ pub fn keys(
     if prk.len() < size {
         return Err(Refusal::PrkTooShort);
     }
-    derive(hash_number, size, prk, tenant, machine, out);
+    derive(hash, prk, tenant, machine, out);
     Ok(())
 }

@@ -81,15 +81,15 @@ fn put_sites(columns: &Columns<'_>, out: &mut [u8])
 }
 
 // The tag of all bytes before it, after them.
-fn put_tag(hash_number: u32, key: &[u8], plan: Plan, out: &mut [u8])
-    requires { Taggable hash_number key.now plan.body_size plan.tag_size out.old }
-    ensures { out.new ≡ tagged hash_number key.now plan.body_size plan.tag_size out.old }
+fn put_tag(key: &[u8], plan: Plan, out: &mut [u8])
+    requires { Taggable key.now plan out.old }
+    ensures { out.new ≡ tagged key.now plan out.old }
 {
     let mut tag = [0u8; 32];
     let at = plan.body_size;
     let size = plan.tag_size;
     hmac::tag_message(
-        hash_number,
+        plan.hash.into(),
         key,
         &out[TAGGED_FROM..at],
         size,
@@ -97,11 +97,10 @@ fn put_tag(hash_number: u32, key: &[u8], plan: Plan, out: &mut [u8])
     )
     .unwrap();
     // What stands after the tag is the caller's, and is left alone.
-    let kept = size;
-    octets::copy_prefix(&tag[..kept], &mut out[at..]);
+    octets::copy_prefix(&tag[..size], &mut out[at..]);
 }
 
-// The whole report: its body, which is all before the tag, and the tag, of the plan's sizes.
+// The whole report: its body, which is all before the tag, and the tag, as the plan says.
 pub(crate) fn fill(
     heading: Heading,
     columns: &Columns<'_>,
@@ -109,7 +108,7 @@ pub(crate) fn fill(
     plan: Plan,
     out: &mut [u8],
 )
-    requires { Filling heading (columns_in columns.now) tag_key.now plan.body_size plan.tag_size out.old }
+    requires { Filling heading (columns_in columns.now) tag_key.now plan out.old }
     ensures { out.new ≡ over (report_of (fields_from heading (sites_of (columns_in columns.now))) tag_key.now) out.old }
 {
     put_head(
@@ -119,5 +118,5 @@ pub(crate) fn fill(
         out,
     );
     put_sites(columns, &mut out[HEAD..]);
-    put_tag(heading.hash, tag_key, plan, out);
+    put_tag(tag_key, plan, out);
 }

@@ -1,21 +1,20 @@
 // The fingerprint of a report, under the fingerprint key.
 ghost use Rattle.std.specs.Prelude.{◌≡◌, ◌++◌};
 ghost use Rattle.algorithm.specs.Answers.{number};
-ghost use Rattle.algorithm.specs.Hashes.{hash_of};
 ghost use Rattle.hmac.specs.Hmac.{tag_of};
 ghost use Rattle.report.specs.Calls.{FingerprintOutcome};
 ghost use Rattle.report.specs.Inside.{TwoPieces};
 
 use crate::checks::{check_key, check_report};
 use crate::format::{COUNT_END, FINGERPRINT, GAP_END, GAP_START};
-use algorithm::Refusal;
+use algorithm::{Hash, Refusal};
 
 // The tag of two pieces.
-fn tag_pieces(hash: u32, key: &[u8], first: &[u8], second: &[u8], out: &mut [u8])
+fn tag_pieces(hash: Hash, key: &[u8], first: &[u8], second: &[u8], out: &mut [u8])
     requires { TwoPieces hash key.now first.now second.now out.old }
-    ensures { out.new ≡ tag_of (hash_of hash) key.now 32 (first.now ++ second.now) }
+    ensures { out.new ≡ tag_of hash key.now 32 (first.now ++ second.now) }
 {
-    let mut keyed = hmac::start(hash, key, FINGERPRINT).unwrap();
+    let mut keyed = hmac::start(hash.into(), key, FINGERPRINT).unwrap();
     hmac::update(&mut keyed, first).unwrap();
     hmac::update(&mut keyed, second).unwrap();
     hmac::tag(keyed, out).unwrap();

@@ -1,6 +1,6 @@
 // What the format fixes: the sizes of a report and of its parts, and the hash that a report names.
-ghost use Rattle.std.specs.Prelude.{◌≡◌};
-ghost use Rattle.report.specs.Layout.{tag_size_of};
+ghost use Rattle.std.specs.Prelude.{◌≡◌, ◌*◌};
+ghost use Rattle.algorithm.specs.Hashes.{size_of};
 ghost use Rattle.report.specs.Reading.{named_in};
 
 use algorithm::{Hash, Refusal};
@@ -41,9 +41,9 @@ pub(crate) fn hash_named(hash_number: u32) -> Result<Hash, Refusal>
     }
 }
 
-// The bytes of a report's tag, by the number of its hash: half a digest.
-pub(crate) fn tag_size(hash_number: u32) -> usize
-    ensures { result ≡ tag_size_of hash_number }
+// The bytes of a report's tag: half a digest.
+pub(crate) fn tag_size(hash: Hash) -> usize
+    ensures { 2 * result ≡ size_of hash }
 {
-    if hash_number == 2 { 32 } else { 16 }
+    algorithm::digest_size(hash) / 2
 }

@@ -5,11 +5,12 @@ ghost use Rattle.report.specs.Writing.Inside.{plan_by, plan_of};
 
 use crate::columns::{Columns, check_columns};
 use crate::format::{BESIDE_LABEL, HEAD, hash_named, tag_size};
-use algorithm::Refusal;
+use algorithm::{Hash, Refusal};
 
-// How many bytes stand before the tag, and how many the tag has.
+// The hash, how many bytes stand before the tag, and how many the tag has.
 #[derive(Clone, Copy)]
 pub struct Plan {
+    pub hash: Hash,
     pub body_size: usize,
     pub tag_size: usize,
 }
@@ -18,10 +19,11 @@ pub struct Plan {
 pub(crate) fn make_plan(hash_number: u32, columns: &Columns<'_>) -> Result<Plan, Refusal>
     ensures { plan_by result ≡ plan_of hash_number (columns_in columns.now) }
 {
-    hash_named(hash_number)?;
+    let hash = hash_named(hash_number)?;
     check_columns(columns)?;
     Ok(Plan {
+        hash,
         body_size: HEAD + columns.labels.len() + BESIDE_LABEL * columns.lengths.len(),
-        tag_size: tag_size(hash_number),
+        tag_size: tag_size(hash),
     })
 }

@@ -4,7 +4,7 @@ ghost use Rattle.report.specs.Calls.{reading_by, ReadOutcome};
 ghost use Rattle.report.specs.Inside.{head_reading};
 
 use crate::checks::check_report;
-use crate::numbers::number_at;
+use crate::numbers::{u8_at, u16_at, u32_at, u64_at};
 use algorithm::Refusal;
 
 // The fields of a report, with the sum of live bytes.
@@ -29,16 +29,16 @@ fn fields(report: &[u8], live: u64) -> Reading
     ensures { reading_by (Ok result) ≡ head_reading report.now live }
 {
     Reading {
-        count: number_at(report, 0, 4) as u32,
-        version: number_at(report, 4, 1) as u8,
-        hash: number_at(report, 5, 1) as u8,
-        tenant: number_at(report, 6, 4) as u32,
-        machine: number_at(report, 10, 8),
-        report: number_at(report, 18, 8),
-        sent: number_at(report, 26, 8),
-        attempt: number_at(report, 34, 1) as u8,
-        memory: number_at(report, 35, 8),
-        sites: number_at(report, 43, 2) as u16,
+        count: u32_at(report, 0),
+        version: u8_at(report, 4),
+        hash: u8_at(report, 5),
+        tenant: u32_at(report, 6),
+        machine: u64_at(report, 10),
+        report: u64_at(report, 18),
+        sent: u64_at(report, 26),
+        attempt: u8_at(report, 34),
+        memory: u64_at(report, 35),
+        sites: u16_at(report, 43),
         live,
     }
 }

@@ -6,7 +6,7 @@ ghost use Rattle.report.specs.Inside.{body_sites, Standing, StartIs};
 
 use crate::checks::check_report;
 use crate::format::{BESIDE_LABEL, HEAD};
-use crate::numbers::number_at;
+use crate::numbers::{u32_at, u64_at};
 use algorithm::Refusal;
 
 // A site: where its label starts in the report, how long the label is, live bytes and live blocks.
@@ -40,8 +40,8 @@ fn found(body: &[u8], place: u64) -> SiteAt
     SiteAt {
         start: at + 1,
         length: size,
-        live: number_at(body, at + size + 1, 8),
-        blocks: number_at(body, at + size + 9, 4) as u32,
+        live: u64_at(body, at + size + 1),
+        blocks: u32_at(body, at + size + 9),
     }
 }
 

@@ -15,7 +15,7 @@ pub fn check(report: &[u8], tag_key: &[u8]) -> Result<(), Refusal>
     check_key(tag_key)?;
     let end = checked.end;
     hmac::verify_message(
-        checked.hash,
+        checked.hash.into(),
         tag_key,
         &report[TAGGED_FROM..end],
         report.len() - end,

@@ -3,7 +3,7 @@ ghost use Rattle.std.specs.Prelude.{◌≡◌, ◌≤◌, length};
 ghost use Rattle.report.specs.Inside.{step_by, Stepped, counted_by, end_of, Walked};
 
 use crate::format::{BESIDE_LABEL, HEAD, LONGEST_LABEL};
-use crate::numbers::number_at;
+use crate::numbers::u64_at;
 use algorithm::Refusal;
 
 // One site: where the next one starts, and its live bytes.
@@ -33,7 +33,7 @@ fn pass_site(body: &[u8], at: usize) -> Result<Step, Refusal>
     }
     Ok(Step {
         next: at + size + BESIDE_LABEL,
-        live: number_at(body, at + size + 1, 8),
+        live: u64_at(body, at + size + 1),
     })
 }
 

@@ -23,7 +23,7 @@ fn gather_numbers(
         let Ok(site) = report::site(report, place as u64) else {
             return place;
         };
-        lengths[place] = (site.length % 4294967296) as u32;
+        lengths[place] = u32::try_from(site.length).unwrap_or(0);
         live[place] = site.live;
         blocks[place] = site.blocks;
     }
@@ -102,9 +102,7 @@ pub(crate) fn write_twice(
     out: &mut [u8],
     second: &mut [u8],
 ) -> io::Result<()> {
-    let n = calls::write(rt, heading, columns, key, out)?;
-    if n != 0 {
-        let report = &out[..n];
+    if let Some(report) = calls::write(rt, heading, columns, key, out)? {
         calls::check(rt, report, key)?;
         calls::read(rt, report)?;
         if let Ok(read) = report::read(report) {

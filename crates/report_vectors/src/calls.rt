@@ -1,9 +1,7 @@
 // The calls on a report, each with a line on what it answers.
-ghost use Rattle.std.specs.Prelude.{◌≤◌, length, IfOk};
-
 use crate::say;
-use crate::say::Bytes;
 use algorithm::number;
+use cases::Bytes;
 use report::{Columns, Heading};
 use std::io;
 
@@ -48,19 +46,20 @@ pub(crate) fn keys(
     say::answer(rt, answered, out)
 }
 
-// Writing, and how many bytes of the output are a report: none where it is refused. A length that the output does not have would
-// show in the line, and counts as none too.
-pub(crate) fn write(
+// Writing, and the report that was written: none where it is refused. A length that the output does not have would show in the line,
+// and counts as none too.
+pub(crate) fn write<'a>(
     rt: &impl Print,
     heading: Heading,
     columns: &Columns<'_>,
     key: &[u8],
-    out: &mut [u8],
-) -> io::Result<usize>
-    ensures { IfOk result (λ n. n ≤ length out.new) }
-{
+    out: &'a mut [u8],
+) -> io::Result<Option<&'a [u8]>> {
     let written = report::write(heading, columns, key, out);
-    let n = written.unwrap_or(0);
-    println!(rt; "write: {}, {n}, {}", number(written), Bytes(out))?;
-    Ok(if n <= out.len() { n } else { 0 })
+    let length = written.unwrap_or(0);
+    println!(rt; "write: {}, {length}, {}", number(written), Bytes(out))?;
+    match written {
+        Ok(length) if length <= out.len() => Ok(Some(&out[..length])),
+        _ => Ok(None),
+    }
 }

@@ -4,20 +4,23 @@
 
 mod again;
 mod calls;
-mod input;
 mod ledgers;
 mod records;
 mod say;
 
+use cases::Number;
 use std::io;
 
 // A run ends after so many records.
 const MOST_RECORDS: usize = 65536;
 
 fn main(rt: HostRuntime) -> io::Result<()> {
-    let mut records = rt.stdin();
+    let mut input = rt.stdin();
     for _ in 0..MOST_RECORDS {
-        if !records::next(&rt, &mut records)? {
+        let Ok(kind) = u8::read_from(&mut input) else {
+            return Ok(());
+        };
+        if !cases::goes_on(&rt, records::run(&rt, &mut input, kind))? {
             return Ok(());
         }
     }

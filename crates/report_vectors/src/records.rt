@@ -1,8 +1,8 @@
 // The records of the input, each read and run.
-use crate::input::Stop;
-use crate::{again, calls, input, ledgers};
-use report::Columns;
-use std::io;
+use crate::{again, calls, ledgers};
+use cases::{Number, Stop};
+use ledger::Submission;
+use report::{Columns, Heading};
 use std::io::Read;
 
 // The most bytes of a report or of labels, of a key and of an output.
@@ -18,10 +18,10 @@ const NUMBERS: usize = 80;
 // The report, and its sites at the places that follow it.
 fn read(rt: &impl Print, from: &mut impl Read) -> Result<(), Stop> {
     let mut space = [0u8; REPORT];
-    let report = input::string(from, &mut space)?;
+    let report = cases::string(from, &mut space)?;
     calls::read(rt, report)?;
-    for _ in 0..input::one(from)? {
-        let place = input::eight(from)?;
+    for _ in 0..u8::read_from(from)? {
+        let place = u64::read_from(from)?;
         calls::site(rt, report, place)?;
     }
     Ok(())
@@ -30,8 +30,8 @@ fn read(rt: &impl Print, from: &mut impl Read) -> Result<(), Stop> {
 fn check(rt: &impl Print, from: &mut impl Read) -> Result<(), Stop> {
     let mut space = [0u8; REPORT];
     let mut key_space = [0u8; KEY];
-    let report = input::string(from, &mut space)?;
-    let key = input::string(from, &mut key_space)?;
+    let report = cases::string(from, &mut space)?;
+    let key = cases::string(from, &mut key_space)?;
     calls::check(rt, report, key)?;
     Ok(())
 }
@@ -40,9 +40,9 @@ fn fingerprint(rt: &impl Print, from: &mut impl Read) -> Result<(), Stop> {
     let mut space = [0u8; REPORT];
     let mut key_space = [0u8; KEY];
     let mut out = [0xa5u8; OUTPUT];
-    let report = input::string(from, &mut space)?;
-    let key = input::string(from, &mut key_space)?;
-    let size = input::size(from, OUTPUT)?;
+    let report = cases::string(from, &mut space)?;
+    let key = cases::string(from, &mut key_space)?;
+    let size = cases::size(from, OUTPUT)?;
     calls::fingerprint(rt, report, key, &mut out[..size])?;
     Ok(())
 }
@@ -50,13 +50,26 @@ fn fingerprint(rt: &impl Print, from: &mut impl Read) -> Result<(), Stop> {
 fn keys(rt: &impl Print, from: &mut impl Read) -> Result<(), Stop> {
     let mut key_space = [0u8; KEY];
     let mut out = [0xa5u8; OUTPUT];
-    let hash_number = input::four(from)?;
-    let prk = input::string(from, &mut key_space)?;
-    let tenant = input::four(from)?;
-    let machine = input::eight(from)?;
-    let size = input::size(from, OUTPUT)?;
+    let hash_number = u32::read_from(from)?;
+    let prk = cases::string(from, &mut key_space)?;
+    let tenant = u32::read_from(from)?;
+    let machine = u64::read_from(from)?;
+    let size = cases::size(from, OUTPUT)?;
     calls::keys(rt, hash_number, prk, tenant, machine, &mut out[..size])?;
     Ok(())
+}
+
+// The heading of a report that is to be written.
+fn heading(from: &mut impl Read) -> Result<Heading, Stop> {
+    Ok(Heading {
+        hash: u32::read_from(from)?,
+        tenant: u32::read_from(from)?,
+        machine: u64::read_from(from)?,
+        report: u64::read_from(from)?,
+        sent: u64::read_from(from)?,
+        attempt: u8::read_from(from)?,
+        memory: u64::read_from(from)?,
+    })
 }
 
 // Writes a report from its heading and its sites, under the tag key and over an output of the size that follow them.
@@ -68,15 +81,15 @@ fn write(rt: &impl Print, from: &mut impl Read) -> Result<(), Stop> {
     let mut key_space = [0u8; KEY];
     let mut out = [0xa5u8; REPORT];
     let mut second = [0xa5u8; REPORT];
-    let heading = input::heading(from)?;
+    let heading = heading(from)?;
     let columns = Columns {
-        labels: input::string(from, &mut labels)?,
-        lengths: input::list(from, &mut lengths, |from| input::four(from))?,
-        live: input::list(from, &mut live, |from| input::eight(from))?,
-        blocks: input::list(from, &mut blocks, |from| input::four(from))?,
+        labels: cases::string(from, &mut labels)?,
+        lengths: cases::list(from, &mut lengths)?,
+        live: cases::list(from, &mut live)?,
+        blocks: cases::list(from, &mut blocks)?,
     };
-    let key = input::string(from, &mut key_space)?;
-    let size = input::size(from, REPORT)?;
+    let key = cases::string(from, &mut key_space)?;
+    let size = cases::size(from, REPORT)?;
     again::write_twice(
         rt,
         heading,
@@ -92,15 +105,17 @@ fn submit(rt: &impl Print, from: &mut impl Read) -> Result<(), Stop> {
     let mut space = [0u8; REPORT];
     let mut tag_space = [0u8; KEY];
     let mut fingerprint_space = [0u8; KEY];
-    let report = input::string(from, &mut space)?;
-    let tag_key = input::string(from, &mut tag_space)?;
-    let fingerprint_key = input::string(from, &mut fingerprint_space)?;
-    ledgers::submit_twice(rt, report, tag_key, fingerprint_key)?;
+    let submission = Submission {
+        report: cases::string(from, &mut space)?,
+        tag_key: cases::string(from, &mut tag_space)?,
+        fingerprint_key: cases::string(from, &mut fingerprint_space)?,
+    };
+    ledgers::submit_twice(rt, &submission)?;
     Ok(())
 }
 
 // A record of a kind.
-fn run(rt: &impl Print, from: &mut impl Read, kind: u8) -> Result<(), Stop> {
+pub(crate) fn run(rt: &impl Print, from: &mut impl Read, kind: u8) -> Result<(), Stop> {
     match kind {
         1 => read(rt, from),
         2 => check(rt, from),
@@ -109,20 +124,5 @@ fn run(rt: &impl Print, from: &mut impl Read, kind: u8) -> Result<(), Stop> {
         5 => write(rt, from),
         6 => submit(rt, from),
         _ => Err(Stop::NoRecord),
-    }
-}
-
-// The next record, and whether there may be another.
-pub(crate) fn next(rt: &impl Print, from: &mut impl Read) -> io::Result<bool> {
-    let Ok(kind) = input::one(from) else {
-        return Ok(false);
-    };
-    match run(rt, from, kind) {
-        Ok(()) => Ok(true),
-        Err(Stop::NoRecord) => {
-            println!(rt; "no record: of another kind, cut short, or with a part too long")?;
-            Ok(false)
-        }
-        Err(Stop::Failed(error)) => Err(error),
     }
 }

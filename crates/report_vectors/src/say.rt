@@ -1,24 +1,9 @@
 // What the program writes of what came back of a call.
 use algorithm::{Refusal, number};
+use cases::Bytes;
 use ledger::{Answer, Record};
 use report::{Reading, SiteAt};
-use std::{fmt, io};
-
-// Bytes, as two digits each.
-#[derive(Clone, Copy)]
-pub(crate) struct Bytes<'a>(pub &'a [u8]);
-
-impl fmt::Display for Bytes<'_> {
-    fn fmt<W: fmt::Write>(&self, f: &mut fmt::Formatter<W>) -> fmt::Result {
-        if self.0.is_empty() {
-            return write!(f, "empty");
-        }
-        for byte in self.0 {
-            write!(f, "{byte:02x}")?;
-        }
-        Ok(())
-    }
-}
+use std::io;
 
 // The number that a call answers, and its output.
 pub(crate) fn answer(rt: &impl Print, answered: Result<(), Refusal>, out: &[u8]) -> io::Result<()> {

@@ -1,7 +1,9 @@
 -- Believed: what each public call answers, for all arguments: its checks in their order, and the bytes taken in where none fails. An
 -- outcome predicate is what the call's contract says; Calls/Unique.antt shows that no second outcome meets it. Assumes nothing.
 pub mod Unique
-use Rattle.std.specs.Prelude.{◌≡◌, Bool, true, false, not, ◌||◌, List, [], ◌∷◌, ◌++◌, ℕ, ◌-◌, ◌≤◌, leb, eqb, length, take, drop, Result, Ok, Err}
+use Rattle.std.specs.Prelude.{◌≡◌, Bool, true, false, not, ◌||◌, List, [], ◌∷◌, ◌++◌, ℕ, ◌-◌, ◌≤◌, leb, eqb, length, take, drop, Option, Some, None, Result, Ok, Err}
+use Rattle.std.specs.declared.num.NonZeroUsize.{NonZeroUsize}
+use Rattle.std.specs.Int.NonZero.{non_zero_usize_get}
 use Rattle.algorithm.specs.Refusals.{done, wrong_size, state_not_sound, wrong_report_length}
 use Rattle.algorithm.specs.Answers as numbers
 use Rattle.algorithm.specs.declared.refusals.Refusal.{Refusal}
@@ -46,8 +48,13 @@ pub record Fed : Type 0 where
   pub length : ℕ
   pub state : State
 
+-- the answer of the code as such values: the length is 0 where it gives none
+abbrev pub length_by : Option NonZeroUsize → ℕ
+length_by None = 0
+length_by (Some n) = non_zero_usize_get n
+
 abbrev pub fed_by : feds.Fed → Fed
-fed_by f = record { answer = answer_by f.answer; used = f.used; length = f.length; state = f.state }
+fed_by f = record { answer = answer_by f.answer; used = f.used; length = length_by f.length; state = f.state }
 
 -- and the values beside it: bytes used of the piece, the length of a whole report, the state. A check that fails uses nothing and hands
 -- the state back

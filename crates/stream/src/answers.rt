@@ -4,6 +4,7 @@ ghost use Rattle.algorithm.specs.Answers.{number_of};
 ghost use Rattle.stream.specs.Calls.{answer_by, fed_by, refused_fed, more_fed, closing_fed, AnswerNumberOutcome};
 
 use algorithm::Refusal;
+use std::num::NonZeroUsize;
 
 // How many bytes are collected of the report on its way, and whether the stream is closed: 0 where it is open. Before the first feed
 // both are 0.
@@ -21,12 +22,12 @@ pub enum Answer {
 }
 
 // The answer, where a whole report may be refused too; how many bytes of the piece were used; the length of the whole report in the
-// buffer, one that the reader refuses too; and the state for the next feed.
+// buffer, one that the reader refuses too, where there is one; and the state for the next feed.
 #[derive(Clone, Copy)]
 pub struct Fed {
     pub answer: Result<Answer, Refusal>,
     pub used: usize,
-    pub length: usize,
+    pub length: Option<NonZeroUsize>,
     pub state: State,
 }
 
@@ -44,7 +45,7 @@ pub(crate) fn refused(state: State, refusal: Refusal) -> Fed
     Fed {
         answer: Err(refusal),
         used: 0,
-        length: 0,
+        length: None,
         state,
     }
 }
@@ -56,7 +57,7 @@ pub(crate) fn more(used: usize, collected: usize) -> Fed
     Fed {
         answer: Ok(Answer::More),
         used,
-        length: 0,
+        length: None,
         state: State {
             collected,
             closed: 0,
@@ -71,7 +72,7 @@ pub(crate) fn closing(used: usize) -> Fed
     Fed {
         answer: Err(Refusal::WrongReportLength),
         used,
-        length: 0,
+        length: None,
         state: State {
             collected: 0,
             closed: 1,

@@ -5,6 +5,7 @@ ghost use Rattle.stream.specs.Inside.{Goal, CollectOutcome, Waiting, TakeOutcome
 
 use crate::answers::{Answer, Fed, State, closing, more};
 use crate::totals::{COUNT, in_range, total_of};
+use std::num::NonZeroUsize;
 
 // Writes bytes of the piece after the collected ones, until `goal` are collected or the piece ends.
 fn collect(collected: usize, goal: usize, buffer: &mut [u8], piece: &[u8])
@@ -21,7 +22,7 @@ fn whole(report: &[u8], used: usize) -> Fed
     Fed {
         answer: report::read(report).map(|_| Answer::Whole),
         used,
-        length: report.len(),
+        length: NonZeroUsize::new(report.len()),
         state: State {
             collected: 0,
             closed: 0,

@@ -10,21 +10,15 @@ pub(crate) fn total_of(bytes: &[u8]) -> usize
     requires { 4 ≤ length bytes.now }
     ensures { result ≡ total_of bytes.now }
 {
-    let mut n: usize = 0;
-    for byte in &bytes[..COUNT] {
-        n = n * 256 + usize::from(*byte);
-    }
-    n + COUNT
+    let count = u32::from_be_bytes([bytes[0], bytes[1], bytes[2], bytes[3]]);
+    count as usize + COUNT
 }
 
 // Whether a report can have so many bytes.
 pub(crate) fn in_range(total: usize) -> bool
     ensures { result ≡ in_range total }
 {
-    if total < report::SMALLEST_REPORT {
-        return false;
-    }
-    total <= report::LARGEST_REPORT
+    (report::SMALLEST_REPORT..=report::LARGEST_REPORT).contains(&total)
 }
 
 // Whether bytes begin a report and wait for more of it: fewer than four, or fewer than their total, which is in range.

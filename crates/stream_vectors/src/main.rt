@@ -2,20 +2,23 @@
 // made by tests/reports.py, which says in its first lines how a case is written.
 #![tactic(auto)]
 
-mod input;
 mod records;
 mod say;
 mod streams;
 
+use cases::Number;
 use std::io;
 
 // A run ends after so many records.
 const MOST_RECORDS: usize = 65536;
 
 fn main(rt: HostRuntime) -> io::Result<()> {
-    let mut records = rt.stdin();
+    let mut input = rt.stdin();
     for _ in 0..MOST_RECORDS {
-        if !records::next(&rt, &mut records)? {
+        let Ok(kind) = u8::read_from(&mut input) else {
+            return Ok(());
+        };
+        if !cases::goes_on(&rt, records::run(&rt, &mut input, kind))? {
             return Ok(());
         }
     }

@@ -1,22 +1,7 @@
 // What the program writes of what came back of a feed.
-use std::{fmt, io};
+use cases::Bytes;
+use std::io;
 use stream::{Answer, Fed};
-
-// Bytes, as two digits each.
-#[derive(Clone, Copy)]
-struct Bytes<'a>(&'a [u8]);
-
-impl fmt::Display for Bytes<'_> {
-    fn fmt<W: fmt::Write>(&self, f: &mut fmt::Formatter<W>) -> fmt::Result {
-        if self.0.is_empty() {
-            return write!(f, "empty");
-        }
-        for byte in self.0 {
-            write!(f, "{byte:02x}")?;
-        }
-        Ok(())
-    }
-}
 
 // The bytes up to the last that is not a5.
 fn written(bytes: &[u8]) -> &[u8] {
@@ -34,7 +19,8 @@ pub(crate) fn fed(rt: &impl Print, fed: Fed, buffer: &[u8]) -> io::Result<()> {
         Err(_) => "refused",
     };
     let number = stream::answer_number(fed.answer);
-    print!(rt; "feed: {number} {case}, {} {},", fed.used, fed.length)?;
+    let length = fed.length.map_or(0, |length| length.get());
+    print!(rt; "feed: {number} {case}, {} {length},", fed.used)?;
     println!(rt;
         " {} {}, {}",
         fed.state.collected,

@@ -1,17 +1,19 @@
 // What C calls: each export is one call of a layer and carries that call's promise. include/tirmuzzle.h declares them.
 #![tactic(auto)]
 
+ghost use Rattle.std.specs.Prelude.{◌≡◌};
 ghost use Rattle.hash.specs.Calls.{DigestOutcome};
 ghost use Rattle.hmac.specs.Calls.{TagMessageOutcome, VerifyMessageOutcome};
 ghost use Rattle.hkdf.specs.Calls.{ExtractOutcome, ExpandOutcome};
 ghost use Rattle.report.specs.Calls.{ReadIntoOutcome, SiteIntoOutcome, CheckOutcome, FingerprintOutcome, KeysOutcome, WriteOutcome};
 ghost use Rattle.report.specs.Writing.{columns};
 ghost use Rattle.ledger.specs.Calls.{SubmitShownOutcome, TotalOutcome};
-ghost use Rattle.stream.specs.Calls.{FeedShownOutcome};
+ghost use Rattle.stream.specs.Calls.{length_by, FeedShownOutcome};
 
 use algorithm::number;
-use ledger::Record;
+use ledger::{Record, Submission};
 use report::{Columns, Heading};
+use std::num::NonZeroUsize;
 use stream::State;
 
 #[unsafe(no_mangle)]
@@ -155,7 +157,12 @@ pub extern "C" fn tirmuzzle_ledger_submit(
 ) -> u32
     ensures { SubmitShownOutcome records.old report.now tag_key.now fingerprint_key.now result seen.new records.new }
 {
-    let answer = ledger::submit(records, report, tag_key, fingerprint_key);
+    let submission = Submission {
+        report,
+        tag_key,
+        fingerprint_key,
+    };
+    let answer = ledger::submit(records, &submission);
     *seen = ledger::answer_seen(answer);
     ledger::answer_number(answer)
 }
@@ -167,6 +174,16 @@ pub extern "C" fn tirmuzzle_ledger_total(records: &[Record], total: &mut u64) ->
     let summed = ledger::total(records);
     *total = summed.unwrap_or(0);
     number(summed)
+}
+
+// A report's length as C sees it: 0 where there is none.
+fn length_number(length: Option<NonZeroUsize>) -> u64
+    ensures { result ≡ length_by length }
+{
+    match length {
+        Some(length) => length.get() as u64,
+        None => 0,
+    }
 }
 
 #[unsafe(no_mangle)]
@@ -188,6 +205,6 @@ pub extern "C" fn tirmuzzle_stream_feed(
     *collected = fed.state.collected as u64;
     *closed = fed.state.closed;
     *used = fed.used as u64;
-    *length = fed.length as u64;
+    *length = length_number(fed.length);
     stream::answer_number(fed.answer)
 }

@@ -2,15 +2,18 @@
 mod calls;
 mod cases;
 
-use cases::{NARROW, WIDE};
+use crate::made::HASHES;
+use algorithm::Hash;
 use std::io;
 
 pub(crate) fn run(rt: &impl Print) -> io::Result<()> {
     cases::published(rt)?;
-    cases::lengths(rt, 1, NARROW)?;
-    cases::lengths(rt, 2, WIDE)?;
-    cases::limits(rt, 1, NARROW)?;
-    cases::limits(rt, 2, WIDE)?;
-    cases::limits(rt, 0, NARROW)?;
-    cases::limits(rt, 3, WIDE)
+    for hash in HASHES {
+        cases::lengths(rt, hash)?;
+    }
+    for hash in HASHES {
+        cases::limits(rt, hash.into(), hash)?;
+    }
+    cases::limits(rt, 0, Hash::Sha256)?;
+    cases::limits(rt, 3, Hash::Sha512)
 }

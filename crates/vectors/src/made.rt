@@ -4,23 +4,7 @@ use hash::State;
 use hmac::Keyed;
 use std::array;
 
-// A hash, and the number that names it.
-#[derive(Clone, Copy)]
-pub(crate) struct Numbered {
-    pub(crate) number: u32,
-    pub(crate) hash: Hash,
-}
-
-pub(crate) const HASHES: [Numbered; 2] = [
-    Numbered {
-        number: 1,
-        hash: Hash::Sha256,
-    },
-    Numbered {
-        number: 2,
-        hash: Hash::Sha512,
-    },
-];
+pub(crate) const HASHES: [Hash; 2] = [Hash::Sha256, Hash::Sha512];
 
 // Numbers that name a hash, and numbers that name none.
 pub(crate) const NUMBERS: [u32; 5] = [0, 1, 2, 3, 4294967295];
@@ -40,51 +24,26 @@ pub(crate) fn pattern<const N: usize>(first: u8) -> [u8; N] {
     array::from_fn(|place| first.wrapping_add((place % 251) as u8))
 }
 
-// A state of zeros but for its count, its last word, and one waiting byte where the place is one of the 128.
-pub(crate) fn nearly_zero(hash: Hash, count: u64, place: usize, word: u64) -> State {
-    let mut waiting = [0; 128];
-    if let Some(byte) = waiting.get_mut(place) {
-        *byte = 1;
-    }
+// A state of zeros but for its count, its last word, and the waiting byte at a place, if one is given.
+pub(crate) fn nearly_zero(hash: Hash, count: u64, place: Option<usize>, word: u64) -> State {
     State {
         hash,
         words: [0, 0, 0, 0, 0, 0, 0, word],
         count,
-        waiting,
+        waiting: array::from_fn(|at| u8::from(place == Some(at))),
     }
 }
 
-// A keyed state of a state, a tag length and outer words.
-pub(crate) fn keyed(inner: State, tag_length: usize, outer: [u64; 8]) -> Keyed {
-    let State {
-        hash,
-        words,
-        count,
-        waiting,
-    } = inner;
+// A keyed state for full tags, of a state and outer words.
+pub(crate) fn keyed(inner: State, outer: [u64; 8]) -> Keyed {
+    let words = inner.words;
+    let waiting = inner.waiting;
     Keyed {
-        hash,
-        tag_length,
+        hash: inner.hash,
+        tag_length: algorithm::digest_size(inner.hash),
         words,
-        count,
+        count: inner.count,
         waiting,
         outer,
-    }
-}
-
-// The state inside a keyed state.
-pub(crate) fn inner(keyed: Keyed) -> State {
-    let Keyed {
-        hash,
-        words,
-        count,
-        waiting,
-        ..
-    } = keyed;
-    State {
-        hash,
-        words,
-        count,
-        waiting,
     }
 }

@@ -1,19 +1,7 @@
-// What the program writes: bytes, words, the names of hashes, and what a call answers into an output.
+// What the program writes: words, the names of hashes, and what a call answers.
 use algorithm::{Hash, Refusal};
+use octets::Hex;
 use std::{fmt, io};
-
-// Bytes in hexadecimal.
-#[derive(Clone, Copy)]
-pub(crate) struct Hex<'a>(pub(crate) &'a [u8]);
-
-impl<'a> fmt::Display for Hex<'a> {
-    fn fmt<W: fmt::Write>(&self, f: &mut fmt::Formatter<W>) -> fmt::Result {
-        for byte in self.0 {
-            write!(f, "{byte:02x}")?;
-        }
-        Ok(())
-    }
-}
 
 // Words in hexadecimal, each after a space.
 #[derive(Clone, Copy)]
@@ -39,6 +27,11 @@ impl fmt::Display for Name {
             Hash::Sha512 => "SHA-512",
         })
     }
+}
+
+// A line with the number of an answer.
+pub(crate) fn answer(rt: &impl Print, answered: Result<(), Refusal>) -> io::Result<()> {
+    println!(rt; "{}", algorithm::number(answered))
 }
 
 // The number of a call and its output, of so many bytes and at most 66, which holds a5 everywhere before.

@@ -11,16 +11,16 @@ use std::io;
 
 pub(crate) fn run(rt: &impl Print) -> io::Result<()> {
     edges::starts(rt)?;
-    for of in HASHES {
-        published::cases(rt, of)?;
-        edges::lengths(rt, of)?;
-        edges::keys(rt, of)?;
-        edges::states(rt, of.hash)?;
-        edges::state_lengths(rt, of.hash)?;
-        edges::limit(rt, of.hash)?;
-        edges::large_counts(rt, of.hash)?;
-        sizes::rows(rt, of)?;
-        comparison::rows(rt, of)?;
+    for hash in HASHES {
+        published::cases(rt, hash)?;
+        edges::lengths(rt, hash)?;
+        edges::keys(rt, hash)?;
+        edges::states(rt, hash)?;
+        edges::state_lengths(rt, hash)?;
+        edges::limit(rt, hash)?;
+        edges::large_counts(rt, hash)?;
+        sizes::rows(rt, hash)?;
+        comparison::rows(rt, hash)?;
     }
     Ok(())
 }

@@ -4,7 +4,7 @@ use Rattle.std.proofs.Common.{sym, ap, ◌∙◌, true≢false, le_refl, arith, 
 use Rattle.std.proofs.Math.Bool.{and-false}
 use Rattle.std.proofs.Math.Decide.{dec_le}
 use Rattle.std.proofs.lemmas.Bool.{lt-leb}
-use Rattle.algorithm.specs.Hashes.{block_of, size_of, shortest_of, allowed, Sizes}
+use Rattle.algorithm.specs.Hashes.{hash_number, block_of, size_of, shortest_of, allowed, names, hash_of, which_of, Sizes}
 use Rattle.algorithm.specs.declared.hashes.Hash.{Hash}
 use Rattle.algorithm.specs.declared.hashes.Hash.TheVariants.{Sha256, Sha512}
 use Rattle.algorithm.specs.declared.refusals.Refusal.{Refusal}
@@ -72,3 +72,16 @@ module _ (h : Hash) (t : ℕ) where
 -- the full tag may be asked for
 pub size_allowed : (h : Hash) → allowed h (size_of h) ≡ true
 size_allowed h = length_allowed h (size_of h) (omega (arith, half_digest h)) (le_refl (size_of h))
+
+-- the number of a hash names that hash
+pub number_names : (h : Hash) → names (hash_number h) ≡ true
+number_names Sha256 = refl
+number_names Sha512 = refl
+
+pub number_back : (h : Hash) → hash_of (hash_number h) ≡ h
+number_back Sha256 = refl
+number_back Sha512 = refl
+
+pub number_which : (h : Hash) → which_of (hash_number h) ≡ Ok h
+number_which Sha256 = refl
+number_which Sha512 = refl

@@ -4,14 +4,13 @@ use Rattle.std.proofs.Common.{ap}
 use Rattle.algorithm.specs.Answers.Laws.{refusal_unique, valued_unique}
 use Rattle.algorithm.specs.Checks.Laws.{one_outcome}
 use Rattle.algorithm.specs.declared.refusals.Refusal.{Refusal}
-use Rattle.ledger.specs.Calls.{Answer, Summed, answer_by, summed_by, SubmitOutcome, AnswerNumberOutcome, AnswerSeenOutcome, SubmitShownOutcome, TotalOutcome}
+use Rattle.ledger.specs.Calls.{Submission, Answer, Summed, answer_by, summed_by, SubmitOutcome, AnswerNumberOutcome, AnswerSeenOutcome, SubmitShownOutcome, TotalOutcome}
 use Rattle.ledger.specs.declared.answers.Answer as answers
 use Rattle.ledger.specs.declared.records.Record.{Record}
 
-pub submit_unique : (rs : List Record) (s tag_key fingerprint_key : List ℕ) (r r' : Answer) (o o' : List Record)
-    → SubmitOutcome rs s tag_key fingerprint_key r o → SubmitOutcome rs s tag_key fingerprint_key r' o'
-    → ◌≡◌ {A = Answer × List Record} (r, o) (r', o')
-submit_unique rs s tag_key fingerprint_key r r' o o' = one_outcome
+pub submit_unique : (rs : List Record) (x : Submission) (r r' : Answer) (o o' : List Record)
+    → SubmitOutcome rs x r o → SubmitOutcome rs x r' o' → ◌≡◌ {A = Answer × List Record} (r, o) (r', o')
+submit_unique rs x r r' o o' = one_outcome
 
 pub answer_number_unique : (a : Answer) (r r' : ℕ) → AnswerNumberOutcome a r → AnswerNumberOutcome a r' → r ≡ r'
 answer_number_unique a r r' = one_outcome

@@ -1,6 +1,6 @@
 -- Proved: laws of the calls, for the layers above and for this crate's proofs: what each answers once its checks are known. Assumes
 -- nothing.
-use Rattle.std.specs.Prelude.{◌≡◌, refl, ◌↔◌, Bool, true, false, cond, ◌||◌, leb, ltb, eqb, drop, Result, Ok, Err}
+use Rattle.std.specs.Prelude.{◌≡◌, refl, ◌↔◌, Bool, true, false, cond, ◌||◌, leb, ltb, eqb, drop, Ok, Err}
 use Rattle.std.proofs.Math.Path.{sym, ap}
 use Rattle.std.proofs.Common.{subst, ◌∙◌, true≢false, add-one, length-take-le, drop-drop}
 use mathlib.Core.List.{List, [], ◌∷◌, ◌++◌}
@@ -64,12 +64,12 @@ tag_allowed n = asked (eqb n 2)
     asked true = refl
     asked false = refl
 
+pub fingerprint_fits : (h : Hash) → allowed h 32 ≡ true
+fingerprint_fits Sha256 = refl
+fingerprint_fits Sha512 = refl
+
 pub fingerprint_allowed : (n : ℕ) → allowed (hash_named n) 32 ≡ true
-fingerprint_allowed n = asked (eqb n 2)
-  where
-    asked : (b : Bool) → allowed (cond b Sha512 Sha256) 32 ≡ true
-    asked true = refl
-    asked false = refl
+fingerprint_allowed n = fingerprint_fits (hash_named n)
 
 -- a report's key: what its checks say on both sides of each limit
 module _ (key : List ℕ) where

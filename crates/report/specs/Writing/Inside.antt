@@ -4,7 +4,10 @@ use Rattle.std.proofs.Math.Seq.{paste}
 use Rattle.octets.specs.Every.{every}
 use Rattle.octets.specs.Number.{bytes}
 use Rattle.octets.specs.Sums.{sum_of, largest_total}
+use Rattle.algorithm.specs.declared.hashes.Hash.{Hash}
+use Rattle.algorithm.specs.declared.hashes.Hash.TheVariants.{Sha256}
 use Rattle.algorithm.specs.Refusals.{done, unknown_hash, most_bytes}
+use Rattle.algorithm.specs.Hashes.{size_of}
 use Rattle.algorithm.specs.Answers.{number_of}
 use Rattle.algorithm.specs.declared.refusals.Refusal.{Refusal}
 use Rattle.algorithm.specs.Checks.{Check, check, first_failing, decided, Pass}
@@ -35,26 +38,28 @@ pub record Accepted (h : Heading) (c : Columns) (key out : List ℕ) : Type 0 wh
   pub key_passes : Pass (key_checks key)
   pub room : length (report_of (fields_from h (sites_of c)) key) ≤ length out
 
--- the checks of the hash and the columns, with how many bytes stand before the tag and in it
+-- the checks of the hash and the columns, with the hash and how many bytes stand before the tag and in it
 abbrev pub plan_checks : ℕ → Columns → List Check
 plan_checks n c = check (names_hash n) unknown_hash ∷ column_checks c
 
 abbrev pub body_size_of : Columns → ℕ
 body_size_of c = 45 + length c.labels + 13 * length c.lengths
 
--- a plan, or the number that refuses it and zeros
+-- a plan, or the number that refuses it with hash 1 and zeros
 pub record Plan : Type 0 where
   pub number : ℕ
+  pub hash : Hash
   pub body_size : ℕ
   pub tag_size : ℕ
 
 abbrev pub plan_by : Result plans.Plan Refusal → Plan
-plan_by (Ok p) = record { number = done; body_size = p.body_size; tag_size = p.tag_size }
-plan_by (Err e) = record { number = number_of e; body_size = 0; tag_size = 0 }
+plan_by (Ok p) = record { number = done; hash = p.hash; body_size = p.body_size; tag_size = p.tag_size }
+plan_by (Err e) = record { number = number_of e; hash = Sha256; body_size = 0; tag_size = 0 }
 
 abbrev pub plan_of : ℕ → Columns → Plan
 plan_of n c = record {
   number = first_failing (plan_checks n c);
+  hash = decided (plan_checks n c) (hash_named n) Sha256;
   body_size = decided (plan_checks n c) (body_size_of c) 0;
   tag_size = decided (plan_checks n c) (tag_size_of n) 0;
 }
@@ -90,21 +95,22 @@ pub record Room (c : Columns) (out : List ℕ) : Type 0 where
   pub room : length c.labels + 13 * length c.lengths ≤ length out
 
 -- an output whose first bytes are followed by their tag
-abbrev pub tagged : ℕ → List ℕ → ℕ → ℕ → List ℕ → List ℕ
-tagged n key at size out = take at out ++ (tag_of (hash_named n) key size (take at out) ++ drop (at + size) out)
+abbrev pub tagged : List ℕ → plans.Plan → List ℕ → List ℕ
+tagged key p out =
+    take p.body_size out ++ (tag_of p.hash key p.tag_size (take p.body_size out) ++ drop (p.body_size + p.tag_size) out)
 
-pub record Taggable (n : ℕ) (key : List ℕ) (at size : ℕ) (out : List ℕ) : Type 0 where
-  pub known : names_hash n ≡ true
+pub record Taggable (key : List ℕ) (p : plans.Plan) (out : List ℕ) : Type 0 where
   pub key_fits : length key ≤ most_bytes
-  pub tag : size ≡ tag_size_of n
-  pub least : 45 ≤ at
-  pub short : at ≤ 3949
-  pub room : at + size ≤ length out
+  pub tag : 2 * p.tag_size ≡ size_of p.hash
+  pub least : 45 ≤ p.body_size
+  pub short : p.body_size ≤ 3949
+  pub room : p.body_size + p.tag_size ≤ length out
 
 -- a report that may be written: its body and its tag fit into the output
-pub record Filling (h : Heading) (c : Columns) (key : List ℕ) (body tag : ℕ) (out : List ℕ) : Type 0 where
+pub record Filling (h : Heading) (c : Columns) (key : List ℕ) (p : plans.Plan) (out : List ℕ) : Type 0 where
   pub planned : Planned h.hash c
   pub key_fits : length key ≤ most_bytes
-  pub before : body ≡ body_size_of c
-  pub after : tag ≡ tag_size_of h.hash
-  pub room : body + tag ≤ length out
+  pub hash : p.hash ≡ hash_named h.hash
+  pub before : p.body_size ≡ body_size_of c
+  pub after : p.tag_size ≡ tag_size_of h.hash
+  pub room : p.body_size + p.tag_size ≤ length out

@@ -1,6 +1,6 @@
 // The calls of HKDF, each with what it answers. Outputs hold a5 everywhere before.
-use crate::say::Hex;
-use algorithm::Refusal;
+use algorithm::{Hash, Refusal};
+use octets::Hex;
 use std::io;
 
 // What a key is derived from, and the info that goes into its bytes.
@@ -18,7 +18,7 @@ fn answer(rt: &impl Print, answered: Result<(), Refusal>, out: &[u8]) -> io::Res
         return println!(rt; "{}", Hex(out));
     }
     let mut digest = [0; 32];
-    let _ = hash::digest(1, out, &mut digest);
+    let _ = hash::digest(Hash::Sha256.into(), out, &mut digest);
     println!(rt; "SHA-256 {}", Hex(&digest))
 }
 
@@ -62,15 +62,9 @@ pub(crate) fn expand(
 }
 
 // A key, and so many bytes from it.
-pub(crate) fn derive(
-    rt: &impl Print,
-    hash_number: u32,
-    inputs: Inputs,
-    size: usize,
-) -> io::Result<()> {
+pub(crate) fn derive(rt: &impl Print, hash: Hash, inputs: Inputs, size: usize) -> io::Result<()> {
     let mut space = [0xa5; 64];
-    let key_size = if hash_number == 1 { 32 } else { 64 };
-    let key = &mut space[..key_size];
-    extract_to(rt, hash_number, inputs.salt, inputs.material, key)?;
-    expand(rt, hash_number, key, inputs.info, size)
+    let key = &mut space[..algorithm::digest_size(hash)];
+    extract_to(rt, hash.into(), inputs.salt, inputs.material, key)?;
+    expand(rt, hash.into(), key, inputs.info, size)
 }

@@ -1,7 +1,7 @@
 // The edges that docs/PROTOCOL.md draws for a hash: starts, sound and unsound states, the limit of bytes, sizes of the output; and
 // large counts.
 use crate::hashing::states;
-use crate::made::{self, Numbered};
+use crate::made;
 use crate::say::{self, Name};
 use crate::work::{self, Shown, Work};
 use algorithm::{Hash, MOST_BYTES};
@@ -30,33 +30,33 @@ fn start(rt: &impl Print, number: u32) -> io::Result<()> {
     say::output(rt, 32, |out| hash::digest(number, b"abc", out))
 }
 
-// States that differ from zeros in the count, in one waiting byte (none at place 128) and in the last word.
-const STATES: [[u64; 3]; 20] = [
-    [0, 128, 0],
-    [0, 0, 0],
-    [0, 64, 0],
-    [0, 127, 0],
-    [3, 2, 0],
-    [3, 3, 0],
-    [63, 62, 0],
-    [63, 63, 0],
-    [64, 0, 0],
-    [127, 126, 0],
-    [127, 127, 0],
-    [0, 128, 4294967295],
-    [0, 128, 4294967296],
-    [0, 128, 18446744073709551615],
-    [4294967295, 128, 0],
-    [4294967296, 128, 0],
-    [MOST_BYTES - 1, 128, 0],
-    [MOST_BYTES, 128, 0],
-    [MOST_BYTES + 1, 128, 0],
-    [18446744073709551615, 128, 0],
+// States that differ from zeros in the count, in the waiting byte at a place and in the last word.
+const STATES: [(u64, Option<usize>, u64); 20] = [
+    (0, None, 0),
+    (0, Some(0), 0),
+    (0, Some(64), 0),
+    (0, Some(127), 0),
+    (3, Some(2), 0),
+    (3, Some(3), 0),
+    (63, Some(62), 0),
+    (63, Some(63), 0),
+    (64, Some(0), 0),
+    (127, Some(126), 0),
+    (127, Some(127), 0),
+    (0, None, 4294967295),
+    (0, None, 4294967296),
+    (0, None, 18446744073709551615),
+    (4294967295, None, 0),
+    (4294967296, None, 0),
+    (MOST_BYTES - 1, None, 0),
+    (MOST_BYTES, None, 0),
+    (MOST_BYTES + 1, None, 0),
+    (18446744073709551615, None, 0),
 ];
 
 pub(crate) fn states(rt: &impl Print, hash: Hash) -> io::Result<()> {
-    for [count, place, word] in STATES {
-        let state = made::nearly_zero(hash, count, place as usize, word);
+    for (count, place, word) in STATES {
+        let state = made::nearly_zero(hash, count, place, word);
         println!(rt; "{}", Shown(state))?;
         work::going_on(rt, state, state.size())?;
     }
@@ -84,12 +84,12 @@ pub(crate) fn large_counts(rt: &impl Print, hash: Hash) -> io::Result<()> {
 const SIZES: [usize; 7] = [0, 31, 32, 33, 63, 64, 65];
 
 // Outputs of other sizes than a digest's. An unknown hash and an unsound state are refused before the size is.
-pub(crate) fn sizes(rt: &impl Print, of: Numbered) -> io::Result<()> {
-    let state = work::fed(states::started(of.number), b"abc");
-    let unsound = made::nearly_zero(of.hash, 0, 0, 0);
+pub(crate) fn sizes(rt: &impl Print, hash: Hash) -> io::Result<()> {
+    let state = work::fed(states::started(hash), b"abc");
+    let unsound = made::nearly_zero(hash, 0, Some(0), 0);
     for size in SIZES {
-        print!(rt; "{} of \"abc\" into {size} bytes: ", Name(of.hash))?;
-        say::output(rt, size, |out| hash::digest(of.number, b"abc", out))?;
+        print!(rt; "{} of \"abc\" into {size} bytes: ", Name(hash))?;
+        say::output(rt, size, |out| hash::digest(hash.into(), b"abc", out))?;
         print!(rt; "  for hash 3: ")?;
         say::output(rt, size, |out| hash::digest(3, b"abc", out))?;
         print!(rt; "  by finish: ")?;

@@ -31,11 +31,8 @@ const RUNS: [[usize; 3]; 16] = [
 pub(crate) fn all(rt: &impl Print, hash: Hash) -> io::Result<()> {
     let bytes: [u8; 385] = made::pattern(0);
     for [count, blocks, left] in RUNS {
-        let (from, end) = match hash {
-            Hash::Sha256 => (count % 64, blocks * 64 + left),
-            Hash::Sha512 => (count % 128, blocks * 128 + left),
-        };
-        if let Some(part) = bytes.get(from..end) {
+        let block = algorithm::block_size(hash);
+        if let Some(part) = bytes.get(count % block..blocks * block + left) {
             work::piece(rt, State::own(hash, count as u64), part)?;
         }
     }

@@ -1,18 +1,16 @@
 // States of a hash, as they take pieces and end.
 use crate::made;
-use crate::say::{self, Hex, Name, Words};
+use crate::say::{self, Name, Words};
 use crate::work::Work;
 use algorithm::{Hash, Refusal};
 use hash::State;
+use octets::Hex;
 use std::{fmt, io};
 
 impl Work for State {
     // Its words are 1 to 8, and as many bytes wait as its count asks for, 1 and onward.
     fn own(hash: Hash, count: u64) -> State {
-        let waits = match hash {
-            Hash::Sha256 => count % 64,
-            Hash::Sha512 => count % 128,
-        };
+        let waits = count % algorithm::block_size(hash) as u64;
         let mut waiting = [0; 128];
         for (byte, value) in waiting.iter_mut().zip(1..=127).take(waits as usize) {
             *byte = value;
@@ -55,6 +53,6 @@ impl Work for State {
 }
 
 // A start, or zeros where it is refused.
-pub(crate) fn started(hash_number: u32) -> State {
-    hash::start(hash_number).unwrap_or_default()
+pub(crate) fn started(hash: Hash) -> State {
+    hash::start(hash.into()).unwrap_or_default()
 }

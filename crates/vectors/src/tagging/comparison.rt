@@ -1,9 +1,27 @@
 // Presented tags: right ones, wrong ones, and those of another length.
-use crate::made::Numbered;
-use crate::say::Name;
+use crate::say::{self, Name};
 use crate::tagging::asked::{self, Asked};
 use crate::tagging::keyed;
+use algorithm::Hash;
+use hmac::Keyed;
 use std::io;
+
+// Whether a presented tag is right.
+#[derive(Clone, Copy)]
+struct Verify<'a>(&'a [u8]);
+
+impl Asked for Verify<'_> {
+    const NAME: &'static str = "verify";
+
+    fn of_state<P: Print>(self, rt: &P, keyed: Keyed) -> io::Result<()> {
+        say::answer(rt, hmac::verify(keyed, self.0))
+    }
+
+    fn of_message<P: Print>(self, rt: &P, hash_number: u32, tag_length: usize) -> io::Result<()> {
+        let answered = hmac::verify_message(hash_number, b"Jefe", b"abc", tag_length, self.0);
+        say::answer(rt, answered)
+    }
+}
 
 // The length of the tag, how many bytes of the full tag (with a5 after it) are presented, and how many first ones are unchanged.
 const ROWS: [[usize; 3]; 32] = [
@@ -41,14 +59,14 @@ const ROWS: [[usize; 3]; 32] = [
     [65, 65, 64],
 ];
 
-pub(crate) fn rows(rt: &impl Print, of: Numbered) -> io::Result<()> {
+pub(crate) fn rows(rt: &impl Print, hash: Hash) -> io::Result<()> {
     for [tag_length, size, unchanged] in ROWS {
         print!(rt;
             "HMAC-{} of \"abc\", tag length {tag_length}, presented {size} bytes, the first {unchanged} unchanged: ",
-            Name(of.hash),
+            Name(hash),
         )?;
-        let tag = keyed::changed_tag(keyed::taken(of), unchanged);
-        asked::each(rt, Asked::Verify(&tag[..size.min(66)]), of, tag_length)?;
+        let tag = keyed::changed_tag(keyed::taken(hash), unchanged);
+        asked::each(rt, Verify(&tag[..size.min(66)]), hash, tag_length)?;
     }
     Ok(())
 }

@@ -1,6 +1,6 @@
 // The edges that docs/PROTOCOL.md draws for HMAC: starts, keys, sound and unsound keyed states, the limit of bytes; and large
 // counts.
-use crate::made::{self, Numbered};
+use crate::made;
 use crate::say::{self, Name};
 use crate::tagging::keyed;
 use crate::work::{self, Shown, Work};
@@ -53,21 +53,21 @@ fn in_one_call(rt: &impl Print, number: u32) -> io::Result<()> {
         32,
         |out| hmac::tag_message(number, b"Jefe", b"abc", 32, out),
     )?;
-    let verified = hmac::verify_message(number, b"Jefe", b"abc", 32, &[0; 32]);
-    println!(rt;
-        "  verify_message of \"abc\" with zeros: {}",
-        algorithm::number(verified)
+    print!(rt; "  verify_message of \"abc\" with zeros: ")?;
+    say::answer(
+        rt,
+        hmac::verify_message(number, b"Jefe", b"abc", 32, &[0; 32]),
     )
 }
 
 // A start for each tag length, and how what came back goes on.
-pub(crate) fn lengths(rt: &impl Print, of: Numbered) -> io::Result<()> {
+pub(crate) fn lengths(rt: &impl Print, hash: Hash) -> io::Result<()> {
     for tag_length in LENGTHS {
         print!(rt;
             "start for hash {} and tags of length {tag_length}: ",
-            of.number
+            u32::from(hash)
         )?;
-        let keyed = started(rt, of.number, b"Jefe", tag_length)?;
+        let keyed = started(rt, hash.into(), b"Jefe", tag_length)?;
         work::going_on(rt, keyed, tag_length.min(66))?;
     }
     Ok(())
@@ -76,70 +76,68 @@ pub(crate) fn lengths(rt: &impl Print, of: Numbered) -> io::Result<()> {
 const KEYS: [usize; 9] = [0, 1, 63, 64, 65, 127, 128, 129, 300];
 
 // Keys of lengths around a block's.
-pub(crate) fn keys(rt: &impl Print, of: Numbered) -> io::Result<()> {
+pub(crate) fn keys(rt: &impl Print, hash: Hash) -> io::Result<()> {
     let bytes: [u8; 300] = made::pattern(1);
     for length in KEYS {
-        under(rt, of, &bytes[..length])?;
+        under(rt, hash, &bytes[..length])?;
     }
     Ok(())
 }
 
-fn under(rt: &impl Print, of: Numbered, key: &[u8]) -> io::Result<()> {
-    let size = algorithm::digest_size(of.hash);
+fn under(rt: &impl Print, hash: Hash, key: &[u8]) -> io::Result<()> {
+    let size = algorithm::digest_size(hash);
     print!(rt;
         "HMAC-{} of \"abc\" under a key of length {}: ",
-        Name(of.hash),
+        Name(hash),
         key.len()
     )?;
     say::output(
         rt,
         size,
-        |out| hmac::tag_message(of.number, key, b"abc", size, out),
+        |out| hmac::tag_message(hash.into(), key, b"abc", size, out),
     )?;
     print!(rt; "  start: ")?;
-    let keyed = started(rt, of.number, key, size)?;
+    let keyed = started(rt, hash.into(), key, size)?;
     work::going_on(rt, keyed, size)
 }
 
-// Keyed states that differ from zeros in the count, in one waiting byte (none at place 128), in the last word and in the last outer
-// word.
-const STATES: [[u64; 4]; 27] = [
-    [0, 128, 0, 0],
-    [63, 128, 0, 0],
-    [64, 128, 0, 0],
-    [127, 128, 0, 0],
-    [128, 128, 0, 0],
-    [64, 0, 0, 0],
-    [128, 0, 0, 0],
-    [130, 1, 0, 0],
-    [130, 2, 0, 0],
-    [130, 64, 0, 0],
-    [130, 127, 0, 0],
-    [191, 62, 0, 0],
-    [191, 63, 0, 0],
-    [255, 126, 0, 0],
-    [255, 127, 0, 0],
-    [128, 128, 4294967295, 0],
-    [128, 128, 4294967296, 0],
-    [128, 128, 18446744073709551615, 0],
-    [128, 128, 0, 4294967295],
-    [128, 128, 0, 4294967296],
-    [128, 128, 0, 18446744073709551615],
-    [4294967295, 128, 0, 0],
-    [4294967296, 128, 0, 0],
-    [MOST_BYTES - 1, 128, 0, 0],
-    [MOST_BYTES, 128, 0, 0],
-    [MOST_BYTES + 1, 128, 0, 0],
-    [18446744073709551615, 128, 0, 0],
+// Keyed states that differ from zeros in the count, in the waiting byte at a place, in the last word and in the last outer word.
+const STATES: [(u64, Option<usize>, u64, u64); 27] = [
+    (0, None, 0, 0),
+    (63, None, 0, 0),
+    (64, None, 0, 0),
+    (127, None, 0, 0),
+    (128, None, 0, 0),
+    (64, Some(0), 0, 0),
+    (128, Some(0), 0, 0),
+    (130, Some(1), 0, 0),
+    (130, Some(2), 0, 0),
+    (130, Some(64), 0, 0),
+    (130, Some(127), 0, 0),
+    (191, Some(62), 0, 0),
+    (191, Some(63), 0, 0),
+    (255, Some(126), 0, 0),
+    (255, Some(127), 0, 0),
+    (128, None, 4294967295, 0),
+    (128, None, 4294967296, 0),
+    (128, None, 18446744073709551615, 0),
+    (128, None, 0, 4294967295),
+    (128, None, 0, 4294967296),
+    (128, None, 0, 18446744073709551615),
+    (4294967295, None, 0, 0),
+    (4294967296, None, 0, 0),
+    (MOST_BYTES - 1, None, 0, 0),
+    (MOST_BYTES, None, 0, 0),
+    (MOST_BYTES + 1, None, 0, 0),
+    (18446744073709551615, None, 0, 0),
 ];
 
 pub(crate) fn states(rt: &impl Print, hash: Hash) -> io::Result<()> {
-    for [count, place, word, outer] in STATES {
-        let inner = made::nearly_zero(hash, count, place as usize, word);
-        let size = algorithm::digest_size(hash);
-        let keyed = made::keyed(inner, size, [0, 0, 0, 0, 0, 0, 0, outer]);
+    for (count, place, word, outer) in STATES {
+        let inner = made::nearly_zero(hash, count, place, word);
+        let keyed = made::keyed(inner, [0, 0, 0, 0, 0, 0, 0, outer]);
         println!(rt; "{}", Shown(keyed))?;
-        work::going_on(rt, keyed, size)?;
+        work::going_on(rt, keyed, keyed.size())?;
     }
     Ok(())
 }

@@ -1,5 +1,5 @@
 // Keyed states, as they take pieces and end, and tags of them.
-use crate::made::{self, Numbered};
+use crate::made;
 use crate::say::{self, Words};
 use crate::work::{self, Shown, Work};
 use algorithm::{Hash, Refusal};
@@ -10,11 +10,7 @@ use std::{fmt, io};
 impl Work for Keyed {
     // For full tags, with outer words of its own, 9 to 16.
     fn own(hash: Hash, count: u64) -> Keyed {
-        made::keyed(
-            State::own(hash, count),
-            algorithm::digest_size(hash),
-            [9, 10, 11, 12, 13, 14, 15, 16],
-        )
+        made::keyed(State::own(hash, count), [9, 10, 11, 12, 13, 14, 15, 16])
     }
 
     fn is_sound(self) -> bool {
@@ -33,14 +29,21 @@ impl Work for Keyed {
     fn end<P: Print>(self, rt: &P, size: usize) -> io::Result<()> {
         print!(rt; "  tag: ")?;
         say::output(rt, size, |out| hmac::tag(self, out))?;
-        let verified = presented(self, size, size);
-        println!(rt; "  verify: {verified}")?;
-        let verified = presented(self, size, size.saturating_sub(1));
-        println!(rt; "  verify with the last byte changed: {verified}")
+        print!(rt; "  verify: ")?;
+        say::answer(rt, presented(self, size, size))?;
+        print!(rt; "  verify with the last byte changed: ")?;
+        say::answer(rt, presented(self, size, size.saturating_sub(1)))
     }
 
     fn show<W: fmt::Write>(self, f: &mut fmt::Formatter<W>) -> fmt::Result {
-        let inner = Shown(made::inner(self));
+        let words = self.words;
+        let waiting = self.waiting;
+        let inner = Shown(State {
+            hash: self.hash,
+            words,
+            count: self.count,
+            waiting,
+        });
         write!(
             f,
             "HMAC-{inner}, outer words{}, tag length {}",
@@ -50,9 +53,9 @@ impl Work for Keyed {
     }
 }
 
-// A start, or zeros where it is refused. It takes a key and a length, which a start of a hash does not.
-pub(crate) fn started(hash_number: u32, key: &[u8], tag_length: usize) -> Keyed {
-    hmac::start(hash_number, key, tag_length).unwrap_or_default()
+// A start, or zeros where it is refused.
+pub(crate) fn started(hash: Hash, key: &[u8], tag_length: usize) -> Keyed {
+    hmac::start(hash.into(), key, tag_length).unwrap_or_default()
 }
 
 // The same keyed state with another byte at its last place, where none waits.
@@ -62,9 +65,9 @@ pub(crate) fn with_last(mut keyed: Keyed, byte: u8) -> Keyed {
 }
 
 // A start for full tags under the key "Jefe", after the message "abc".
-pub(crate) fn taken(of: Numbered) -> Keyed {
-    let size = algorithm::digest_size(of.hash);
-    work::fed(started(of.number, b"Jefe", size), b"abc")
+pub(crate) fn taken(hash: Hash) -> Keyed {
+    let size = algorithm::digest_size(hash);
+    work::fed(started(hash, b"Jefe", size), b"abc")
 }
 
 // The full tag of a keyed state with a5 after it, or a5 everywhere where it is refused; every byte after the unchanged ones is another.
@@ -84,8 +87,8 @@ pub(crate) fn changed_tag(keyed: Keyed, unchanged: usize) -> [u8; 66] {
     tag
 }
 
-// The number that a presented tag of some bytes gets, at most 66, of which so many first ones are unchanged.
-fn presented(keyed: Keyed, size: usize, unchanged: usize) -> u32 {
+// What a presented tag of some bytes is answered, at most 66, of which so many first ones are unchanged.
+fn presented(keyed: Keyed, size: usize, unchanged: usize) -> Result<(), Refusal> {
     let tag = changed_tag(keyed, unchanged);
-    algorithm::number(hmac::verify(keyed, &tag[..size.min(66)]))
+    hmac::verify(keyed, &tag[..size.min(66)])
 }

@@ -1,5 +1,4 @@
 // The test cases of RFC 4231, in one call, verified, and in pieces.
-use crate::made::{self, Numbered};
 use crate::say::{self, Name};
 use crate::tagging::keyed;
 use crate::work;
@@ -10,7 +9,7 @@ use std::{fmt, io};
 // A message under a key, with the length of its tag and the name of the case.
 #[derive(Clone, Copy)]
 struct Case<'a> {
-    of: Numbered,
+    hash: Hash,
     name: &'a str,
     key: &'a [u8],
     message: &'a [u8],
@@ -19,13 +18,13 @@ struct Case<'a> {
 
 impl<'a> fmt::Display for Case<'a> {
     fn fmt<W: fmt::Write>(&self, f: &mut fmt::Formatter<W>) -> fmt::Result {
-        write!(f, "HMAC-{} of RFC 4231's {}", Name(self.of.hash), self.name)
+        write!(f, "HMAC-{} of RFC 4231's {}", Name(self.hash), self.name)
     }
 }
 
 impl<'a> Case<'a> {
     fn started(self) -> Keyed {
-        keyed::started(self.of.number, self.key, self.size)
+        keyed::started(self.hash, self.key, self.size)
     }
 
     // The message in two halves.
@@ -34,13 +33,11 @@ impl<'a> Case<'a> {
     }
 
     fn tag(self, out: &mut [u8]) -> Result<(), Refusal> {
-        hmac::tag_message(self.of.number, self.key, self.message, self.size, out)
+        hmac::tag_message(self.hash.into(), self.key, self.message, self.size, out)
     }
 
-    // The number that a presented tag gets.
-    fn verify(self, tag: &[u8]) -> u32 {
-        let verified = hmac::verify_message(self.of.number, self.key, self.message, self.size, tag);
-        algorithm::number(verified)
+    fn verify(self, tag: &[u8]) -> Result<(), Refusal> {
+        hmac::verify_message(self.hash.into(), self.key, self.message, self.size, tag)
     }
 }
 
@@ -58,14 +55,13 @@ fn verified(rt: &impl Print, case: Case) -> io::Result<()> {
     let mut space = [0xa5; 66];
     let tag = &mut space[..case.size.min(66)];
     let _ = case.tag(tag);
-    println!(rt; "{case}, verified: {}", case.verify(tag))?;
+    print!(rt; "{case}, verified: ")?;
+    say::answer(rt, case.verify(tag))?;
     if let Some(first) = tag.first_mut() {
         *first ^= 1;
     }
-    println!(rt;
-        "{case}, verified with the first byte changed: {}",
-        case.verify(tag)
-    )
+    print!(rt; "{case}, verified with the first byte changed: ")?;
+    say::answer(rt, case.verify(tag))
 }
 
 // A piece for a state that a byte after those that wait makes unsound, and what came back of it with that byte zero again.
@@ -130,17 +126,17 @@ const CASES: [(&str, &[u8], &[u8]); 7] = [
     ),
 ];
 
-pub(crate) fn cases(rt: &impl Print, of: Numbered) -> io::Result<()> {
+pub(crate) fn cases(rt: &impl Print, hash: Hash) -> io::Result<()> {
     for (name, key, message) in CASES {
         // The RFC prints 16 bytes of the tag of case 5: a tag that SHA-256 gives and SHA-512 does not.
-        let size = match of.hash {
+        let size = match hash {
             Hash::Sha256 if name == "case 5" => 16,
             hash => algorithm::digest_size(hash),
         };
         each(
             rt,
             Case {
-                of,
+                hash,
                 name,
                 key,
                 message,

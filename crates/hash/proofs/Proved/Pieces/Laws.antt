@@ -77,9 +77,12 @@ module _ (n : ℕ) (m out : List ℕ) where
       let first = append_refuses (start_checks n) (drop 1 (digest_checks n m out)) (λ d. z (f ∙ d)) in
       sym (answered_refused (digest_checks n m out) (digest_of (hash_of n) m) out k (first ∙ sym f) z)
 
+  started_names : (start_of n).number ≡ done → names n ≡ true
+  started_names z = elim ((start_done n).0 z) [ and h p ↦ h ]
+
   module _ {s : State} (e : started done s ≡ start_of n) where
     named : names n ≡ true
-    named = elim ((start_done n).0 (sym (ap (λ (r : Started). r.number) e))) [ and h p ↦ h ]
+    named = started_names (sym (ap (λ (r : Started). r.number) e))
 
     began : s ≡ (start_of n).state
     began = ap (λ (r : Started). r.state) e

@@ -1,9 +1,7 @@
 -- `hash::blocks::after_run` goes by the width. Assumes nothing.
-use Rattle.std.proofs.Common.{◌≡◌, ℕ, List, map, ap, ◌∙◌, lit<}
+use Rattle.std.proofs.Common.{◌≡◌, ℕ, List, map, ap, ◌∙◌}
 use mathlib.Core.List.{foldl}
 use Rattle.algorithm.specs.declared.hashes.Hash.{Hash}
-use Rattle.algorithm.specs.Hashes.{block_of}
-use Rattle.hash.specs.Run.{Run}
 use Rattle.hash.specs.Description.{Core, describe, narrow, wide, core_of}
 use Rattle.hash.specs.Blocks.{whole_blocks, words_after}
 use Rattle.hash.specs.Sha2.{block_size, step}
@@ -12,11 +10,8 @@ use Rattle.hash.specs.Digest.Laws.{described}
 use Rattle.hash.proofs.Rounds.{themselves}
 use Rattle.hash.proofs.blocks.after_run.Goals as goal
 
--- a hash that works on a core: its runs are the core's, and so are the words after them
+-- a hash that works on a core: the words after a run are the core's
 module _ (h : Hash) (C : Core) (e : (describe h).core ≡ C) (run : List ℕ) where
-  run_by : Run (block_of h) run → Run (block_size C) run
-  run_by r = rw (← (described h).block_is, e) at r
-
   words_by : (v ws : List ℕ) → map (λ (x : ℕ). x) v ≡ foldl (step C) (map (λ (x : ℕ). x) ws) (whole_blocks (block_size C) run)
       → v ≡ words_of h ws run
   unfolding words_after
@@ -24,12 +19,7 @@ module _ (h : Hash) (C : Core) (e : (describe h).core ≡ C) (run : List ℕ) wh
 
 pub narrowed-requires : goal.narrowed-requires
 unfolding core_of narrow
-narrowed-requires c = rw (c.width_of.ensures, c.in-Narrow.is) at c.requires.0
-
-pub after_run-requires : goal.after_run-requires
-unfolding core_of
-after_run-requires c =
-    (lit< tt, run_by c.args.hash narrow (c.width_of.ensures ∙ ap core_of c.in-Narrow.is) c.args.run.now c.requires.1)
+narrowed-requires c = rw (c.width_of.ensures, c.in-Narrow.is) at c.requires
 
 pub returns-in-Narrow : goal.returns-in-Narrow
 unfolding core_of
@@ -38,11 +28,6 @@ returns-in-Narrow c =
     c.widened.ensures
     ∙ words_by c.args.hash narrow e c.args.run.now c.after_run.result c.narrowed.result c.after_run.ensures
     ∙ ap (λ (ws : List ℕ). words_of c.args.hash ws c.args.run.now) c.narrowed.ensures
-
-pub after_run-requires-in-Wide : goal.after_run-requires-in-Wide
-unfolding core_of
-after_run-requires-in-Wide c =
-    (lit< tt, run_by c.args.hash wide (c.width_of.ensures ∙ ap core_of c.in-Wide.is) c.args.run.now c.requires.1)
 
 pub returns-in-Wide : goal.returns-in-Wide
 unfolding core_of

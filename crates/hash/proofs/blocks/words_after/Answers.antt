@@ -2,17 +2,12 @@
 use Rattle.std.proofs.Common.{◌≡◌, ◌+◌, sym, refl, ap, ◌∙◌, add-one, arith}
 use Rattle.hash.specs.State.{words_of}
 use Rattle.hash.specs.State.Laws.{words_fit}
-use Rattle.hash.proofs.TwoRuns.{run_at, words_at, run_at_lem}
+use Rattle.hash.proofs.TwoRuns.{run_at, words_at}
 use Rattle.hash.proofs.blocks.words_after.Goals as goal
 
 pub loop-init : goal.loop-init
 unfolding words_at run_at
-loop-init c = (c.requires.0, refl, refl)
-
-pub after_run-n-requires : goal.after_run-n-requires
-after_run-n-requires c =
-    let before = c.loop.invariant in
-    (before.0, rw before.2 (run_at_lem c.args.hash c.args.first.now c.args.second.now c.loop.counter c.requires.1 c.requires.2))
+loop-init c = (c.requires, refl, refl)
 
 pub loop-preserved : goal.loop-preserved
 unfolding words_at run_at

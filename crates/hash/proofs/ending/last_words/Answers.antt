@@ -3,10 +3,10 @@ use Rattle.std.proofs.Common.{sym, refl, ◌∙◌, arith, length-take-le}
 use Rattle.algorithm.specs.Hashes.{block_of}
 use Rattle.algorithm.specs.Hashes.Laws.{block_positive}
 use Rattle.hash.specs.Description.{describe}
-use Rattle.hash.specs.Blocks.Laws.{run_none, words_none}
+use Rattle.hash.specs.Blocks.Laws.{words_none}
 use Rattle.hash.specs.Sha2.{step}
 use Rattle.hash.specs.State.Laws.{waiting_most}
-use Rattle.hash.proofs.LastBlocks.{last_range, last_run, last_words_is}
+use Rattle.hash.proofs.LastBlocks.{last_range, last_words_is}
 use Rattle.hash.proofs.ending.last_words.Goals as goal
 
 pub put_last_blocks-requires : goal.put_last_blocks-requires
@@ -21,12 +21,6 @@ pub slice_bounds-words_after-end : goal.slice_bounds-words_after-end
 slice_bounds-words_after-end c =
     let r = last_range c.args.state _ _ c.waiting_count-at.ensures c.padded_end-end.ensures in
     sym (length-take-le _ _ (omega (arith, c.put_last_blocks.ensures.last_len)))
-
-pub words_after-requires : goal.words_after-requires
-words_after-requires c =
-    let r = last_range c.args.state _ _ c.waiting_count-at.ensures c.padded_end-end.ensures in
-    let l = length-take-le c.padded_end-end.result c.put_last_blocks.new.last (omega (arith, c.put_last_blocks.ensures.last_len)) in
-    (c.requires.words, last_run c.args.state _ _ _ c.padded_end-end.ensures l, run_none (block_of c.args.state.hash))
 
 pub returns : goal.returns
 returns c =

@@ -1,26 +1,25 @@
 -- `hash::step::after_run` takes one block a turn. Assumes nothing.
-use Rattle.std.proofs.Common.{arith, length-drop, length-take}
+use Rattle.std.proofs.Common.{◌∙◌, arith}
 use Rattle.hash.specs.Blocks.{words_after}
 use Rattle.hash.proofs.Sizes.{block_is, block_some, words_fit}
-use Rattle.hash.proofs.Loops.{one_more, block_left, all_taken}
+use Rattle.hash.proofs.Loops.{untaken, one_more, all_taken}
 use Rattle.hash.proofs.step.after_run.Goals as goal
 
-pub slice_bounds-step-end : goal.slice_bounds-step-end
-slice_bounds-step-end g c =
-    omega (arith, block_is g.met.W.Word.sizes c.BYTES-size.ensures, block_left c.loop-at.invariant (omega arith))
+pub loop-block-init : goal.loop-block-init
+loop-block-init g c =
+    let items = c.chunks_exact-block-items.ensures in
+    rw c.into_iter-block-iterator.ensures.into_iter_gives
+    (untaken _ (items.size ∙ block_is g.met.W.Word.sizes c.BYTES.ensures) items.rest)
 
 pub step-v-requires : goal.step-v-requires
 step-v-requires g c =
-    let left = block_left c.loop-at.invariant (omega arith) in
-    (words_fit g.met.W.Word.room, (simp (length-take, length-drop) (omega (arith, block_is g.met.W.Word.sizes c.BYTES-size.ensures, left))))
+    (words_fit g.met.W.Word.room, omega (arith, c.loop-block.invariant.size_is, c.in-Some.ensures.steps.1.1))
 
-pub loop-at-preserved : goal.loop-at-preserved
-loop-at-preserved g c =
-    let sizes = g.met.W.Word.sizes in
-    let e = block_is sizes c.BYTES-size.ensures in
-    one_more c.loop-at.invariant e (omega (arith, e, block_some sizes))
-    (omega (arith, e, block_left c.loop-at.invariant (omega arith))) c.step-v.ensures
+pub loop-block-preserved : goal.loop-block-preserved
+loop-block-preserved g c =
+    let turn = c.in-Some.ensures.steps in
+    one_more c.loop-block.invariant _ (block_some g.met.W.Word.sizes) turn.1.0 turn.1.1 turn.0 c.step-v.ensures
 
 pub returns : goal.returns
 unfolding words_after
-returns g c = all_taken c.loop-at.invariant (omega (arith, block_some g.met.W.Word.sizes))
+returns g c = all_taken c.loop-block.invariant c.in-None.ensures.steps.1.0

@@ -8,7 +8,7 @@ use Rattle.hmac.specs.Form.Laws.{form_length}
 use Rattle.hmac.specs.Keyed.{joined}
 use Rattle.hmac.specs.Keyed.Open.{fresh_is}
 use Rattle.octets.specs.Zeros.Laws.{take_whole}
-use Rattle.hmac.proofs.Buffers.{take_masked}
+use Rattle.std.proofs.lemmas.List.{take-map}
 use Rattle.hmac.proofs.starting.keyed_by.Goals as goal
 
 pub returns : goal.returns
@@ -20,7 +20,7 @@ returns c =
     let pad : (x : ℕ) → after_of (fresh_of h) (take (block_of h) (masked x form.result)) ≡ after_of (fresh_of h) (masked x (form_of h key)) =
     λ x.
     ap (after_of (fresh_of h))
-    (take_masked x (block_of h) form.result
+    (take-map _ (block_of h) form.result
     ∙ ap (λ (l : List ℕ). masked x (take (block_of h) l)) form.ensures
     ∙ ap (masked x) (take_whole 128 (block_of h) (form_of h key) (form_length h key)))
     in

@@ -3,6 +3,7 @@ use Rattle.std.specs.Prelude.{◌≡◌, refl, true, false, ◌||◌, List, eqb,
 use Rattle.std.proofs.Common.{sym, ap, ◌∙◌, arith}
 use Rattle.std.proofs.Math.Bool.{Bool, not, cond}
 use Prim.Native.Nat.{ℕ, ◌+◌}
+use Rattle.std.proofs.Math.Decide.{ℕ_discrete}
 use borrow.Author.Tests.{ne_eqb}
 use Rattle.octets.specs.Sums.{largest_total}
 use Rattle.algorithm.specs.Answers.{number_of}
@@ -15,12 +16,12 @@ use Rattle.algorithm.specs.Checks.Laws.{append_refuses, append_passes, done_work
 use Rattle.algorithm.specs.declared.refusals.Refusal.{Refusal}
 use Rattle.algorithm.specs.declared.refusals.Refusal.TheVariants.{StateNotSound}
 use Rattle.ledger.specs.Records.{zero_record, all_used, taken, total_of, sound, entered}
-use Rattle.ledger.specs.Calls.{Answer, Summed, Submission, submission, fingerprint_in, live_in, record_of, report_checks, room_checks, submit_answer, summed_by, total_answer}
+use Rattle.ledger.specs.Calls.{Answer, Summed, Submission, fingerprint_in, live_in, record_of, report_checks, room_checks, submit_answer, summed_by, total_answer}
 use Rattle.ledger.specs.Calls.Answer.{New, Seen, Refused}
 use Rattle.ledger.proofs.Proved.Calls.Laws.{report_refusing}
-use Rattle.ledger.specs.Inside.{tally_of, sum_in, judged_by, judged_of, judged_in, enter_of, settled}
+use Rattle.ledger.specs.Inside.{tally_of, sum_in, judged_by, judged_of, judged_in, enter_of, entered_judged, settled}
 use Rattle.ledger.proofs.Proved.Inside.Laws.{sum_is, sound_is}
-use Rattle.ledger.proofs.Proved.Inside.Entering.{enter_accepted}
+use Rattle.ledger.proofs.Proved.Inside.Entering.{enter_accepted, enter_refused}
 use Rattle.ledger.specs.declared.records.Record.{Record}
 use Rattle.ledger.specs.declared.surveying.Tally.{Tally}
 
@@ -63,15 +64,11 @@ module _ (rs : List Record) (x : Submission) where
         by_tests false false true = refl
 
 -- a report that was judged for the records: what a submission of it answers, where it is refused, and where it is entered
-module _ (rs : List Record) (s tag_key fingerprint_key : List ℕ) {t : Tally} (k : t ≡ tally_of rs) where
-  abbrev x : Submission
-  x = submission s tag_key fingerprint_key
-
-  by_sound : {p : ℕ × Record} → p ≡ judged_in t s tag_key fingerprint_key
-      → p ≡ cond (sound rs) (judged_of s tag_key fingerprint_key) (state_not_sound, zero_record)
+module _ (rs : List Record) (x : Submission) {t : Tally} (k : t ≡ tally_of rs) where
+  by_sound : {p : ℕ × Record} → p ≡ judged_in t x → p ≡ cond (sound rs) (judged_of x) (state_not_sound, zero_record)
   by_sound h = h ∙ rw (k, sound_is rs)
 
-  pub refused_is : (e : Refusal) → judged_by (Err e) ≡ judged_in t s tag_key fingerprint_key → (Refused (number_of e), rs) ≡ submit_answer rs x
+  pub refused_is : (e : Refusal) → judged_by (Err e) ≡ judged_in t x → (Refused (number_of e), rs) ≡ submit_answer rs x
   unfolding judged_of
   refused_is e h = elim (test (sound rs)) [
     | no f ↦ rw (ap (λ (p : ℕ × Record). p.0) (rw f at (by_sound h))) (sym (submit_unsound rs x f))
@@ -80,7 +77,7 @@ module _ (rs : List Record) (s tag_key fingerprint_key : List ℕ) {t : Tally} (
         rw n (sym (submit_bad rs x g (λ d. refusal_not_done e (n ∙ d))))
   ]
 
-  pub accepted_is : (r : Record) → judged_by (Ok r) ≡ judged_in t s tag_key fingerprint_key → enter_of t r rs ≡ submit_answer rs x
+  pub accepted_is : (r : Record) → judged_by (Ok r) ≡ judged_in t x → enter_of t r rs ≡ submit_answer rs x
   unfolding judged_of
   accepted_is r h = elim (test (sound rs)) [
     | no f ↦ let n : done ≡ state_not_sound = ap (λ (p : ℕ × Record). p.0) (rw f at (by_sound h)) in absurd (omega (arith, n))
@@ -90,3 +87,17 @@ module _ (rs : List Record) (s tag_key fingerprint_key : List ℕ) {t : Tally} (
         let is : r ≡ record_of x = ap (λ (p : ℕ × Record). p.1) j ∙ done_work (report_checks x) (record_of x) zero_record d in
         rw (k, enter_accepted rs g r, is) (sym (submit_placed rs x g d))
   ]
+
+-- so what becomes of a report that was judged for the records is what a submission answers and leaves
+pub submit_is : (rs : List Record) (x : Submission) → entered_judged (tally_of rs) (judged_in (tally_of rs) x) rs ≡ submit_answer rs x
+unfolding judged_of
+submit_is rs x = rw (sound_is rs) (by_sound (sound rs) refl)
+  where
+    by_sound : (b : Bool) → sound rs ≡ b
+        → entered_judged (tally_of rs) (cond b (judged_of x) (state_not_sound, zero_record)) rs ≡ submit_answer rs x
+    by_sound false e = enter_refused (tally_of rs) rs (state_not_sound, zero_record) (λ z. omega (arith, z)) ∙ sym (submit_unsound rs x e)
+    by_sound true e = elim (ℕ_discrete (first_failing (report_checks x)) done) [
+      | Prim.no z ↦ enter_refused (tally_of rs) rs (judged_of x) z ∙ sym (submit_bad rs x e z)
+      | Prim.yes d ↦
+          rw (d, enter_accepted rs e (record_of x)) (sym (submit_placed rs x e d))
+    ]

@@ -1,15 +1,22 @@
 -- Proved: laws of entering a record in sound ones by their tally. Assumes nothing.
-use Rattle.std.specs.Prelude.{◌≡◌, refl, true, false, ◌&&◌, List, [], ◌∷◌, suc, ◌+◌, ◌<◌, leb, length, set}
+use Rattle.std.specs.Prelude.{◌≡◌, refl, true, false, ◌&&◌, List, [], ◌∷◌, ℕ, suc, ◌+◌, ◌<◌, eqb, leb, length, take, set}
 use Rattle.std.proofs.Common.{ap, true≢false, arith, le-leb}
 use Rattle.std.proofs.Math.Bool.{Bool, cond}
-use Rattle.std.proofs.lemmas.Bool.{lt-leb}
+use Rattle.std.specs.Option.{is_some}
+use Rattle.std.proofs.lemmas.Bool.{lt-leb, leb-false}
+use borrow.Author.Tests.{ne_eqb}
 use Rattle.octets.specs.Every.Laws.{and_parts}
+use Rattle.octets.specs.Sums.{plus_of}
+use Rattle.algorithm.specs.Refusals.{done, ledger_full, total_too_large}
 use Rattle.ledger.specs.Records.{used, all_used, all_free, used_first, total_of, sound, entered}
 use Rattle.ledger.proofs.Proved.Records.Laws.{sound_exactly}
-use Rattle.ledger.specs.Inside.{count_of, tally_of, enter_of, settled}
+use Rattle.ledger.specs.Calls.{Answer}
+use Rattle.ledger.specs.Calls.Answer.{New, Seen, Refused}
+use Rattle.ledger.specs.Inside.{among, count_of, tally_of, enter_of, entered_judged, settled}
 use Rattle.ledger.specs.Inside.Surveying.{plus_within, some_as}
 use Rattle.ledger.proofs.Proved.Inside.Laws.{count_within, free_count, among_first, sound_sum}
 use Rattle.ledger.specs.declared.records.Record.{Record}
+use Rattle.ledger.specs.declared.surveying.Tally.{Tally}
 
 -- where all records are used as many are used as there are, and otherwise fewer
 count_all : (rs : List Record) → all_used rs ≡ true → count_of rs ≡ length rs
@@ -61,3 +68,19 @@ enter_accepted rs s r =
       some_as (total_of rs + r.live),
       entered_is r rs ((sound_exactly rs).0 s).0,
     )
+
+-- where a new record is written there is room for it
+pub writes_within : (t : Tally) (r : Record) (rs : List Record) → (enter_of t r rs).0 ≡ New → t.used < length rs
+writes_within t r rs = by_tests (among r.fingerprint (take t.used rs)) (leb (length rs) t.used) (is_some (plus_of t.sum r.live)) refl
+  where
+    by_tests : (a b c : Bool) → leb (length rs) t.used ≡ b
+        → ◌≡◌ {A = Answer} (cond {A = Answer × List Record} a (Seen, rs) (cond b (Refused ledger_full, rs) (cond c (New, set rs t.used r) (Refused total_too_large, rs)))).0 New
+        → t.used < length rs
+    by_tests true b c e n = let z : ◌≡◌ {A = ℕ} 0 1 = cc in absurd (omega arith)
+    by_tests false true c e n = let z : ◌≡◌ {A = ℕ} 0 1 = cc in absurd (omega arith)
+    by_tests false false true e n = leb-false (length rs) t.used e
+    by_tests false false false e n = let z : ◌≡◌ {A = ℕ} 0 1 = cc in absurd (omega arith)
+
+-- what becomes of a report that was judged, and refused
+pub enter_refused : (t : Tally) (rs : List Record) (j : ℕ × Record) → (j.0 ≡ done → ⊥) → entered_judged t j rs ≡ (Refused j.0, rs)
+enter_refused t rs j z = rw (ne_eqb j.0 done z)

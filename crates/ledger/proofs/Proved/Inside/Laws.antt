@@ -1,16 +1,15 @@
 -- Proved: laws of the pass over the records: how far it came, and what it tells in the end. Assumes nothing.
-use Rattle.std.specs.Prelude.{◌≡◌, refl, Bool, true, false, not, cond, ◌&&◌, ◌||◌, List, [], ◌∷◌, ℕ, suc, ◌+◌, ◌≤◌, ◌<◌, leb, length, take, get_or, Some, None, Result, Ok, Err}
+use Rattle.std.specs.Prelude.{◌≡◌, refl, Bool, true, false, not, cond, ◌&&◌, ◌||◌, List, [], ◌∷◌, ℕ, suc, ◌+◌, ◌++◌, ◌≤◌, ◌<◌, leb, length, take, get_or, Some, None, Result, Ok, Err}
 use Rattle.std.specs.Option.{ok_or}
 use Rattle.std.specs.Result.{is_ok}
-use Rattle.std.proofs.Common.{ap, ◌∙◌, add-one, arith, take-suc, le-leb}
+use Rattle.std.proofs.Common.{sym, ap, ◌∙◌, add-one, arith, take-suc}
+use Rattle.std.proofs.Math.Bool.{or_assoc, or-false}
 use Rattle.std.proofs.lemmas.Bool.{not-true}
 use Rattle.octets.specs.Every.Laws.{and_parts}
 use Rattle.octets.specs.Same.{equal}
-use Rattle.octets.specs.Sums.{largest_total}
 use Rattle.algorithm.specs.declared.refusals.Refusal.{Refusal}
 use Rattle.algorithm.specs.declared.refusals.Refusal.TheVariants.{StateNotSound}
-use Rattle.ledger.specs.Records.{used, all_used, all_free, used_first, free_zero, taken, none_twice, total_of, sound}
-use Rattle.ledger.proofs.Proved.Records.Laws.{sound_exactly}
+use Rattle.ledger.specs.Records.{used, zero_record, all_used, all_free, used_first, taken, total_of, sound}
 use Rattle.ledger.specs.Inside.{among, count_of, tally_of, with_record, sum_in}
 use Rattle.ledger.specs.Inside.Surveying.{tally_with}
 use Rattle.ledger.specs.declared.records.Record.{Record}
@@ -20,6 +19,22 @@ among_taken : (f : List ℕ) (rs : List Record) → all_used rs ≡ true → amo
 unfolding taken all_used
 among_taken f [] e = refl
 among_taken f (r ∷ rs) e = let p = and_parts (used r) (all_used rs) e in rw (p.0, among_taken f rs p.1)
+
+-- the fingerprint among the first records: none, and one more
+pub among_none : (f : List ℕ) (rs : List Record) → among f (take 0 rs) ≡ false
+among_none f rs = refl
+
+among_append : (f : List ℕ) (a b : List Record) → among f (a ++ b) ≡ (among f a || among f b)
+among_append f [] b = refl
+among_append f (r ∷ a) b = rw (among_append f a b) (sym (or_assoc (equal r.fingerprint f) (among f a) (among f b)))
+
+pub among_more : (f : List ℕ) (rs : List Record) (i : ℕ) → i < length rs
+    → among f (take (i + 1) rs) ≡ (among f (take i rs) || equal (get_or rs i zero_record).fingerprint f)
+among_more f rs i h =
+    ap (λ (n : ℕ). among f (take n rs)) (add-one i)
+    ∙ ap (among f) (take-suc rs i zero_record h)
+    ∙ among_append f (take i rs) (get_or rs i zero_record ∷ [])
+    ∙ ap (λ (b : Bool). among f (take i rs) || b) (or-false (equal (get_or rs i zero_record).fingerprint f))
 
 -- no more are used than there are
 pub count_within : (rs : List Record) → count_of rs ≤ length rs
@@ -47,16 +62,12 @@ tally_more rs i d h =
 
 -- a pass tells the sum of a sound slice, and so whether it is sound
 pub sum_is : (rs : List Record) → sum_in (tally_of rs) ≡ cond (sound rs) (Ok (total_of rs)) (Err StateNotSound)
-unfolding tally_of sound
-sum_is rs = by_tests (used_first rs) (free_zero rs) (none_twice rs) (leb (total_of rs) largest_total)
+unfolding tally_of
+sum_is rs = by_sound (sound rs)
   where
-    by_tests : (u f n l : Bool) → cond (u && (f && n)) (ok_or (cond l (Some (total_of rs)) None) StateNotSound) (Err StateNotSound)
-        ≡ cond (u && (f && (n && l))) (Ok (total_of rs)) (Err StateNotSound)
-    by_tests true true true true = refl
-    by_tests true true true false = refl
-    by_tests true true false l = refl
-    by_tests true false n l = refl
-    by_tests false f n l = refl
+    by_sound : (b : Bool) → ok_or (cond b (Some (total_of rs)) None) StateNotSound ≡ cond b (Ok (total_of rs)) (Err StateNotSound)
+    by_sound true = refl
+    by_sound false = refl
 
 pub sound_is : (rs : List Record) → is_ok (sum_in (tally_of rs)) ≡ sound rs
 sound_is rs = rw (sum_is rs) (by_sound (sound rs))
@@ -67,7 +78,7 @@ sound_is rs = rw (sum_is rs) (by_sound (sound rs))
 
 pub sound_sum : (rs : List Record) → sound rs ≡ true → (tally_of rs).sum ≡ Some (total_of rs)
 unfolding tally_of
-sound_sum rs s = rw (le-leb (total_of rs) largest_total ((sound_exactly rs).0 s).3)
+sound_sum rs s = rw s
 
 -- where no record is used, none is counted and no fingerprint is taken
 pub free_count : (rs : List Record) → all_free rs ≡ true → count_of rs ≡ 0

@@ -17,7 +17,8 @@ use Rattle.report.specs.Calls.{Reading, key_checks, tag_checks, CheckOutcome, Fi
 use Rattle.report.specs.Calls.Laws.{tag_refusing, check_exactly, check_done, fingerprint_done, fingerprint_key_lem, fingerprint_accepted, read_passes}
 use Rattle.report.specs.declared.reading.Reading as reading
 use Rattle.ledger.specs.Records.{zero_record, used_record}
-use Rattle.ledger.specs.Calls.{Submission, submission, fingerprint_in, live_in, record_of, report_checks}
+use Rattle.ledger.specs.Calls.{Submission, fingerprint_in, live_in, record_of, report_checks}
+use Rattle.ledger.specs.Lent.{submission_in}
 use Rattle.ledger.specs.Inside.{sum_in, judged_by, judged_of, judged_in}
 use Rattle.ledger.specs.declared.surveying.Tally.{Tally}
 use Rattle.ledger.proofs.judging.judge.Goals as goal
@@ -30,23 +31,29 @@ module _ (s tag_key : List ℕ) (d : CheckOutcome s tag_key done) where
   read_refuses : (e : Refusal) → ReadOutcome s (reading_by (Err e)) → ⊥
   read_refuses e h = refusal_not_done e (ap (λ (r : Reading). r.number) (h ∙ read_passes s (passed s read_done)))
 
-module _ (t : Tally) (s tag_key fingerprint_key : List ℕ) {live : ℕ} (k : Ok live ≡ sum_in t) where
-  abbrev x : Submission
-  x = submission s tag_key fingerprint_key
+module _ (t : Tally) (x : Submission) {live : ℕ} (k : Ok live ≡ sum_in t) where
+  abbrev s : List ℕ
+  s = x.report
+
+  abbrev tag_key : List ℕ
+  tag_key = x.tag_key
+
+  abbrev fingerprint_key : List ℕ
+  fingerprint_key = x.fingerprint_key
 
   -- what is judged, once the first failing check is known
-  judged_refused : (e : Refusal) → number_of e ≡ first_failing (report_checks x) → judged_by (Err e) ≡ judged_in t s tag_key fingerprint_key
+  judged_refused : (e : Refusal) → number_of e ≡ first_failing (report_checks x) → judged_by (Err e) ≡ judged_in t x
   unfolding judged_of
   judged_refused e n =
       rw (sym k) (λ i. (n i, sym (refused_given (report_checks x) (record_of x) zero_record (λ d. refusal_not_done e (n ∙ d))) i))
 
   judged_accepted : first_failing (report_checks x) ≡ done
-      → judged_by (Ok (used_record (fingerprint_in x) (live_in x))) ≡ judged_in t s tag_key fingerprint_key
+      → judged_by (Ok (used_record (fingerprint_in x) (live_in x))) ≡ judged_in t x
   unfolding judged_of
   judged_accepted d = rw (sym k) (λ i. (sym d i, sym (done_work (report_checks x) (record_of x) zero_record d) i))
 
   -- the tag's check refuses the report
-  tag_refuses : (e : Refusal) → CheckOutcome s tag_key (number_of e) → judged_by (Err e) ≡ judged_in t s tag_key fingerprint_key
+  tag_refuses : (e : Refusal) → CheckOutcome s tag_key (number_of e) → judged_by (Err e) ≡ judged_in t x
   tag_refuses e h =
       let n = fails_number ((check_exactly (number_of e) (refusal_not_done e) s tag_key).0 (sym h)) in
       judged_refused e (sym (append_refuses (tag_checks s tag_key) (key_checks fingerprint_key) (λ d. refusal_not_done e (sym n ∙ d)) ∙ n))
@@ -57,7 +64,7 @@ module _ (t : Tally) (s tag_key fingerprint_key : List ℕ) {live : ℕ} (k : Ok
     then_key =
         append_passes (tag_checks s tag_key) (key_checks fingerprint_key) (passes_done ((check_done s tag_key).0 (sym d))) (tag_refusing s tag_key)
 
-    key_refuses : (e : Refusal) → FingerprintOutcome s fingerprint_key out (number_of e) after → judged_by (Err e) ≡ judged_in t s tag_key fingerprint_key
+    key_refuses : (e : Refusal) → FingerprintOutcome s fingerprint_key out (number_of e) after → judged_by (Err e) ≡ judged_in t x
     key_refuses e h = elim (test (eqb (first_failing (key_checks fingerprint_key)) done)) [
       | yes b ↦
           let e-done = h ∙ fingerprint_accepted s fingerprint_key out (passed s (read_done s tag_key d)) (eqb-true _ done b) size in
@@ -68,7 +75,7 @@ module _ (t : Tally) (s tag_key fingerprint_key : List ℕ) {live : ℕ} (k : Ok
     ]
 
     accepts : FingerprintOutcome s fingerprint_key out done after → (r : reading.Reading) → ReadOutcome s (reading_by (Ok r))
-        → judged_by (Ok (used_record after r.live)) ≡ judged_in t s tag_key fingerprint_key
+        → judged_by (Ok (used_record after r.live)) ≡ judged_in t x
     accepts h r read =
         let all = (fingerprint_done s fingerprint_key out).0 (sym (ap (λ (p : ℕ × List ℕ). p.0) h)) in
         let key = passes_done ((pass_append (key_checks fingerprint_key) _).0 ((pass_append (read_checks s) _).0 all).1).0 in
@@ -79,12 +86,12 @@ module _ (t : Tally) (s tag_key fingerprint_key : List ℕ) {live : ℕ} (k : Ok
 
 pub returns-in_err-check : goal.returns-in_err-check
 returns-in_err-check c =
-    let is = tag_refuses c.args.tally _ _ c.args.fingerprint_key.now c.in_ok-sum_in.ensures _ c.in_err-check.ensures in
+    let is = tag_refuses c.args.tally (submission_in c.args.submission.now) c.in_ok-sum_in.ensures _ c.in_err-check.ensures in
     search rules
 
 pub returns-in_err-fingerprint : goal.returns-in_err-fingerprint
 returns-in_err-fingerprint c =
-    let is = key_refuses c.args.tally _ _ _ c.in_ok-sum_in.ensures c.in_ok-check.ensures _ _ refl _ c.in_err-fingerprint.ensures in
+    let is = key_refuses c.args.tally (submission_in c.args.submission.now) c.in_ok-sum_in.ensures c.in_ok-check.ensures _ _ refl _ c.in_err-fingerprint.ensures in
     search rules
 
 pub returns-in_err-read : goal.returns-in_err-read
@@ -92,4 +99,4 @@ returns-in_err-read c = absurd (read_refuses _ _ c.in_ok-check.ensures _ c.in_er
 
 pub returns : goal.returns
 returns c =
-    accepts c.args.tally _ _ _ c.in_ok-sum_in.ensures c.in_ok-check.ensures _ _ refl c.in_ok-fingerprint.ensures _ c.in_ok-read.ensures
+    accepts c.args.tally (submission_in c.args.submission.now) c.in_ok-sum_in.ensures c.in_ok-check.ensures _ _ refl c.in_ok-fingerprint.ensures _ c.in_ok-read.ensures

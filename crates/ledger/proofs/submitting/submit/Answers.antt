@@ -6,11 +6,11 @@ use Rattle.ledger.proofs.submitting.submit.Goals as goal
 
 pub returns-in_err-record : goal.returns-in_err-record
 returns-in_err-record c =
-    let is = refused_is _ _ _ _ c.survey-tally.ensures _ (c.in_err-record.ensures) in
+    let is = refused_is _ _ c.survey-tally.ensures _ (c.in_err-record.ensures) in
     search rules
 
 pub enter-requires : goal.enter-requires
 enter-requires c = rw c.survey-tally.ensures (used_within _)
 
 pub returns : goal.returns
-returns c = c.enter.ensures ∙ accepted_is _ _ _ _ c.survey-tally.ensures _ (c.in_ok-record.ensures)
+returns c = c.enter.ensures ∙ accepted_is _ _ c.survey-tally.ensures _ (c.in_ok-record.ensures)

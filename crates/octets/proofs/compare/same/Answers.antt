@@ -1,8 +1,8 @@
 -- `octets::compare::same` meets its contract. The loop's invariant: the gathered bits tell whether the bytes passed are equal.
 -- Assumes nothing.
-use Rattle.std.proofs.Common.{◌≤◌, arith, length, take_all, rules}
+use Rattle.std.proofs.Common.{length, rules}
 use Rattle.std.proofs.lemmas.List.{length_push}
-use Rattle.std.proofs.lemmas.Slice.Zip.{zip_turn, zip_end}
+use Rattle.std.proofs.lemmas.Slice.Zip.{zip_turn}
 use Rattle.octets.proofs.Tells.{tells_more}
 use Rattle.octets.proofs.compare.same.Goals as goal
 
@@ -13,14 +13,3 @@ loop-x-preserved c =
     let begun = c.into_iter-x-iterator.result in
     let turn = zip_turn a b _ begun _ c.next.new.self _ (search rules) (search rules) c.loop-x.yielded_by _ c.in-Some.is c.next.ensures.steps in
     rw (length_push, turn.2 0, turn.3 0) (tells_more a b (length c.loop-x.yielded) c.loop-x.bits turn.0 turn.1 c.loop-x.invariant)
-
-pub returns : goal.returns
-returns c =
-    let a = c.args.a.now in
-    let b = c.args.b.now in
-    let n = length c.loop-x.yielded in
-    let begun = c.into_iter-x-iterator.result in
-    let end = zip_end a b _ begun _ c.next.new.self _ (search rules) (search rules) c.loop-x.yielded_by c.in-None.is c.next.ensures.steps in
-    let h : length a ≤ n = omega arith in
-    let k : length b ≤ n = omega arith in
-    rw (take_all n a h, take_all n b k) at c.loop-x.invariant

@@ -1,5 +1,5 @@
 -- `octets::copy::copy_prefix`: one element a turn. Assumes nothing.
-use Rattle.std.proofs.Common.{◌≡◌, ◌∙◌, ◌++◌, ◌<◌, ap, arith, length, length-take, take, drop}
+use Rattle.std.proofs.Common.{◌≡◌, ◌∙◌, ◌++◌, ◌<◌, ap, arith, length-take, take, drop}
 use Rattle.std.proofs.Math.ListN.{get_or, set}
 use Rattle.std.proofs.lemmas.List.{get_or-take}
 use Rattle.octets.specs.Copy.Laws.{copy_next}

@@ -1,18 +1,20 @@
--- `report::columns::sum_live`: the sum of the live bytes that the loop passed. Assumes nothing.
-use Rattle.std.proofs.Common.{refl, take_all}
-use Rattle.octets.specs.Sums.{sum_of}
-use Rattle.octets.specs.Sums.Laws.{sum_more, plus_is}
+-- `report::columns::sum_live`: what `fold` makes of all live bytes. Assumes nothing.
+use Rattle.std.proofs.Common.{◌≡◌, refl, sym, subst, ℕ, ◌+◌, List, [], ◌∷◌, Option, arith, rules}
+use Rattle.std.specs.List.{fold}
+use Rattle.std.proofs.lemmas.Iterator.{YieldsList-from_slice}
+use Rattle.std.proofs.lemmas.Iterator.Consumers.{fold_from_yields_List}
+use Rattle.octets.specs.Sums.{sum_of, no_sum, plus_of, SumIs}
+use Rattle.octets.specs.Sums.Laws.{plus_is}
 use Rattle.report.proofs.columns.sum_live.Goals as goal
 
-pub loop-bytes-init : goal.loop-bytes-init
+all_more : (l : List ℕ) (a : Option ℕ) (t u : ℕ) → u ≡ t + sum_of l → SumIs a t → SumIs (fold plus_of a l) u
 unfolding sum_of
-loop-bytes-init c = refl
-
-pub loop-bytes-preserved : goal.loop-bytes-preserved
-loop-bytes-preserved c =
-    let k = c.loop-bytes in
-    rw (c.plus-sum.ensures, sum_more c.args.live.now k.bytes-index c.loop-bytes-test.true)
-    (plus_is k.sum _ _ k.invariant)
+all_more [] a t u e h = let same : t ≡ u = omega (arith, e) in subst (SumIs a) same h
+all_more (x ∷ l) a t u e h = all_more l (plus_of a x) (t + x) u (omega (arith, e)) (plus_is a x t h)
 
 pub returns : goal.returns
-returns c = rw (take_all c.loop-bytes.bytes-index c.args.live.now c.loop-bytes-test.false) at c.loop-bytes.invariant
+returns c =
+    let l = c.args.live.now in
+    subst (λ (s : Option ℕ). SumIs s (sum_of l))
+    (sym (fold_from_yields_List _ plus_of _ _ c.fold.ensures.ran (YieldsList-from_slice l cc) (λ a x b q k. search rules)))
+    (all_more l no_sum 0 (sum_of l) (omega arith) refl)

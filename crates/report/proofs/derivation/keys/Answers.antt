@@ -1,21 +1,15 @@
 -- `report::derivation::keys`: its checks in their order, then both keys. Assumes nothing.
-use Rattle.std.proofs.Common.{◌≡◌, sym, ap, ◌∙◌, true, List, ℕ, arith}
+use Rattle.std.proofs.Common.{sym, ap, ◌∙◌, arith}
 use Rattle.algorithm.specs.declared.hashes.Hash.{Hash}
 use Rattle.algorithm.specs.declared.refusals.Refusal.{Refusal}
 use Rattle.algorithm.specs.Answers.{number_of}
-use Rattle.algorithm.specs.Hashes.{hash_of, size_of}
+use Rattle.algorithm.specs.Hashes.{size_of}
 use Rattle.algorithm.specs.Refusals.{done}
 use Rattle.algorithm.specs.Checks.{written}
-use Rattle.report.specs.Reading.{names_hash, hash_named}
 use Rattle.report.specs.Keys.{keys_of}
-use Rattle.report.specs.Calls.Laws.{named_unknown, named_is, report_hash, keys_unknown, keys_too_long, keys_wrong_size, keys_too_short, keys_accepted}
+use Rattle.report.specs.Calls.Laws.{named_unknown, named_is, keys_unknown, keys_too_long, keys_wrong_size, keys_too_short, keys_accepted}
 use Rattle.algorithm.specs.Answers.Laws.{passed_on}
 use Rattle.report.proofs.derivation.keys.Goals as goal
-
--- both keys, by the hash that a report names
-named_keys : (n : ℕ) (prk : List ℕ) (tenant machine : ℕ) → names_hash n ≡ true → {o : List ℕ} → o ≡ keys_of (hash_of n) prk tenant machine
-    → o ≡ keys_of (hash_named n) prk tenant machine
-named_keys n prk tenant machine h e = e ∙ ap (λ (x : Hash). keys_of x prk tenant machine) (report_hash n h).1
 
 pub returns-in_err-hash : goal.returns-in_err-hash
 returns-in_err-hash c =
@@ -53,5 +47,5 @@ returns c =
     let machine = c.args.machine in
     let known = named_is n c.in_ok-hash.hash (sym c.in_ok-hash.ensures) in
     let size = c.digest_size-size.ensures ∙ ap size_of (sym known.1) in
-    ap (written done) (named_keys n prk tenant machine known.0 c.derive.ensures)
+    ap (written done) (c.derive.ensures ∙ ap (λ (x : Hash). keys_of x prk tenant machine) (sym known.1))
     ∙ sym (keys_accepted n prk tenant machine c.args.out.now known.0 (omega arith) (omega arith) (omega arith))

@@ -3,19 +3,18 @@ use Rattle.std.proofs.Common.{◌≡◌, sym, ap, ◌∙◌, List, ◌++◌, ℕ
 use Rattle.std.proofs.Math.Seq.{slice}
 use Rattle.octets.specs.Parts.{part_slice}
 use Rattle.algorithm.specs.Answers.Laws.{refusal_not_done, passed_on}
-use Rattle.algorithm.specs.Hashes.{hash_of}
 use Rattle.algorithm.specs.Hashes.Laws.{block_most}
 use Rattle.algorithm.specs.Refusals.{done}
 use Rattle.algorithm.specs.Checks.{first_failing, written}
 use Rattle.hmac.specs.Hmac.{tag_of}
-use Rattle.report.specs.Reading.{names_hash, tag_start, before_tag}
+use Rattle.report.specs.Reading.{tag_start, before_tag}
 use Rattle.report.specs.Reading.Laws.{short}
 use Rattle.report.specs.Fingerprint.{gap_start, gap_end, message_of, fingerprint_of}
 use Rattle.report.specs.Calls.{key_checks}
 use Rattle.report.specs.Calls.Laws.{key_fits, fingerprint_refused, fingerprint_key_lem, fingerprint_wrong_size, fingerprint_accepted}
 use Rattle.report.specs.Inside.{TwoPieces}
 use Rattle.report.specs.declared.checks.Checked.{Checked}
-use Rattle.report.proofs.Checked.{Read, number, refuses, read, hash_is, end_low, end_high}
+use Rattle.report.proofs.Checked.{Read, number, refuses, read, end_low, end_high}
 use Rattle.report.proofs.fingerprints.fingerprint.Goals as goal
 
 -- the two pieces of a report that passes, and the tag of both
@@ -30,17 +29,16 @@ module _ (s key : List ℕ) {r : Checked} (p : Read s r) where
       let first : length (take (gap_start - 4) (drop 4 s)) ≡ gap_start - 4 = length-take-le (gap_start - 4) (drop 4 s) (rw length-drop (omega arith)) in
       let second = length-take (r.end - at) (drop at s) in
       record {
-        known = ap names_hash p.hash ∙ p.passes.known;
         key_fits = key_fits key d;
-        fits = omega (arith, block_most (hash_of r.hash), second);
+        fits = omega (arith, block_most r.hash, second);
         size = e;
       }
 
-  tagged : {o : List ℕ} → o ≡ tag_of (hash_of r.hash) key 32 (take (gap_start - 4) (drop 4 s) ++ take (r.end - gap_end) (drop gap_end s)) → o ≡ fingerprint_of s key
+  tagged : {o : List ℕ} → o ≡ tag_of r.hash key 32 (take (gap_start - 4) (drop 4 s) ++ take (r.end - gap_end) (drop gap_end s)) → o ≡ fingerprint_of s key
   unfolding message_of
   tagged e =
       e
-      ∙ (λ j. tag_of ((ap hash_of p.hash ∙ hash_is s p) j) key 32 (part_slice 4 gap_start s j ++ (part_slice gap_end r.end s ∙ ap (λ (t : ℕ). slice gap_end t s) p.end) j))
+      ∙ (λ j. tag_of (p.hash j) key 32 (part_slice 4 gap_start s j ++ (part_slice gap_end r.end s ∙ ap (λ (t : ℕ). slice gap_end t s) p.end) j))
 
 pub returns-in_err-checked : goal.returns-in_err-checked
 returns-in_err-checked c =

@@ -31,5 +31,5 @@ returns c =
       refuses = λ z n. absurd (z refl);
       fits = λ e. fits b c.args.at c.if-body-at.false c.if-size-lt1.false c.if-size-gt-LONGEST_LABEL.false l;
       next = λ e. refl;
-      live = λ e. c.number_at.ensures.is;
+      live = λ e. c.u64_at.ensures;
     }

@@ -1,10 +1,11 @@
 -- Proved: laws of what bytes begin with, told by lengths and the same of every longer list once it is decided, and of the answers to bytes.
 -- Assumes nothing.
 use Rattle.std.specs.Prelude.{◌≡◌, refl, true, false, List, [], ◌∷◌, ◌++◌, ℕ, zero, suc, ◌+◌, ◌≤◌, ◌<◌, leb, ltb, length, take, drop}
-use Rattle.std.proofs.Common.{sym, ap, ◌∙◌, true≢false, arith, length-append, length-drop}
+use Rattle.std.proofs.Common.{sym, le-leb, ap, ◌∙◌, true≢false, arith, length-append, length-drop}
 use Rattle.std.proofs.Math.Bool.{and-false, or-true}
+use Rattle.std.proofs.lemmas.Bool.{lt-leb}
 use Rattle.std.proofs.lemmas.List.{take-append-le}
-use borrow.Author.Tests.{le-leb, lt-leb, leb-true, lt-ltb, le-ltb, ltb-true, ltb-false}
+use borrow.Author.Tests.{leb-true, lt-ltb, le-ltb, ltb-true, ltb-false}
 use Rattle.octets.specs.Number.{number}
 use Rattle.octets.specs.Every.Laws.{and_parts}
 use Rattle.algorithm.specs.Cases.Laws.{test}
@@ -14,7 +15,7 @@ use Rattle.stream.specs.Stream.{total_of, in_range, waits, by_beginning, Event, 
 use Rattle.stream.specs.Inside.{Beginning}
 use Rattle.stream.specs.Inside.Beginning.{waiting, closing, whole}
 
--- a total in range, and one out of range
+-- a total in range
 module _ (t : ℕ) where
   pub in_range_lem : in_range t ≡ true → (smallest_report ≤ t) × (t ≤ largest_report)
   unfolding in_range

@@ -5,7 +5,6 @@ use mathlib.Core.Logic.{inl, inr}
 use mathlib.Core.Bool.{false}
 use native.Mathlib.Omega.{arith}
 use lib.ListN.{take}
-use lib.Seq.{length-take-le}
 use Rattle.stream.specs.Stream.{waits}
 use Rattle.stream.proofs.Proved.Calls.Laws.{feed_not_sound, feed_wrong_size, feed_closed, waits_pass, passed_answer}
 use Rattle.stream.specs.Inside.{Waiting}
@@ -32,10 +31,6 @@ returns-then-state-ne0 c =
     ap (λ (f : Fed). (f, buffer)) c.refused-then-state-ne0.ensures
     ∙ sym ((feed_closed c.args.state buffer piece).1 (omega arith, c.if-buffer-ne-LARGEST_REPORT.false, c.if-state-ne0.true))
 
-pub slice_bounds-waits-end-2 : goal.slice_bounds-waits-end-2
-slice_bounds-waits-end-2 c =
-    sym (length-take-le c.args.state.collected c.args.buffer.now (omega arith))
-
 pub returns-then-not-waits : goal.returns-then-not-waits
 returns-then-not-waits c =
     let buffer = c.args.buffer.now in
@@ -45,14 +40,6 @@ returns-then-not-waits c =
     let lost = (held_lost c.args.state.collected buffer (omega (arith, size))).0 w in
     ap (λ (f : Fed). (f, buffer)) c.refused-then-not-waits.ensures
     ∙ sym ((feed_not_sound c.args.state buffer piece).1 (inr (omega arith, size, c.if-state-ne0.false, lost.0, lost.1)))
-
-pub take_in-requires : goal.take_in-requires
-take_in-requires c =
-    record {
-      few = omega arith;
-      size = c.if-buffer-ne-LARGEST_REPORT.false;
-      wait = sym c.waits.ensures ∙ c.if-not-waits.false;
-    }
 
 pub returns : goal.returns
 returns c =

@@ -6,11 +6,10 @@ use mathlib.Core.List.{List}
 use Prim.Native.Nat.{ℕ, ◌-◌}
 use native.Mathlib.Omega.{arith}
 use lib.ListN.{length, take, drop}
-use lib.Seq.{length-take-le}
 use borrow.Author.Rules.{rules}
 use Rattle.octets.specs.Parts.{part_all}
 use Rattle.stream.specs.Stream.{in_range}
-use Rattle.stream.proofs.Goals.{head_more, after_length, head_closing, head_waiting, head_on, head_used}
+use Rattle.stream.proofs.Goals.{head_more, head_closing, head_waiting, head_on, head_used}
 use Rattle.stream.proofs.taking.take_head.Goals as goal
 
 -- the rest of a piece, as a loan has it
@@ -26,16 +25,6 @@ returns-then-piece-to_fourth c =
     let col = c.collect in
     ap (λ (f : Fed). (f, col.new.buffer)) c.more.ensures
     ∙ head_more c.args.collected c.args.buffer.now c.args.piece.now c.requires.waiting c.requires.head_waits col.new.buffer col.ensures (omega arith)
-
-pub slice_bounds-total_of-end-2 : goal.slice_bounds-total_of-end-2
-slice_bounds-total_of-end-2 c =
-    let col = c.collect in
-    sym (length-take-le 4 col.new.buffer (omega (arith, after_length c.args.collected c.args.buffer.now c.args.piece.now c.requires.waiting c.requires.head_waits col.new.buffer col.ensures (omega arith))))
-
-pub total_of-total-requires : goal.total_of-total-requires
-total_of-total-requires c =
-    let col = c.collect in
-    omega (arith, length-take-le 4 col.new.buffer (omega (arith, after_length c.args.collected c.args.buffer.now c.args.piece.now c.requires.waiting c.requires.head_waits col.new.buffer col.ensures (omega arith))))
 
 pub returns-then-not-in_range : goal.returns-then-not-in_range
 returns-then-not-in_range c =

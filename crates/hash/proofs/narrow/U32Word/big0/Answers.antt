@@ -8,5 +8,5 @@ use Rattle.hash.proofs.narrow.U32Word.big0.Goals as goal
 pub returns : goal.returns
 unfolding big0 narrow
 returns c =
-    big_code 32 narrow.big0_by c.args.x (lit≤ tt) (lit≤ tt) (lit≤ tt) c.ranges.x.fits c.rotr.ensures
-    c.rotr-2.ensures c.rotr-3.ensures
+    big_code 32 narrow.big0_by c.args.x (lit≤ tt) (lit≤ tt) (lit≤ tt) c.ranges.x.fits c.rotate_right.ensures
+    c.rotate_right-2.ensures c.rotate_right-3.ensures

@@ -8,4 +8,4 @@ use Rattle.hash.proofs.narrow.U32Word.small1.Goals as goal
 pub returns : goal.returns
 unfolding small1 narrow
 returns c =
-    small_code 32 narrow.small1_by c.args.x (lit≤ tt) (lit≤ tt) c.ranges.x.fits c.rotr.ensures c.rotr-2.ensures
+    small_code 32 narrow.small1_by c.args.x (lit≤ tt) (lit≤ tt) c.ranges.x.fits c.rotate_right.ensures c.rotate_right-2.ensures

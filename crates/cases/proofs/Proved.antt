@@ -1,0 +1,2 @@
+-- Laws of what the contracts cite; specs/ has the definitions. Assumes nothing.
+pub mod Calls

@@ -1,0 +1,2 @@
+-- Laws of what the public functions promise. Assumes nothing.
+pub mod Unique

@@ -1,0 +1,16 @@
+// Bytes, as the programs print them.
+use octets::Hex;
+use std::fmt;
+
+// In hexadecimal, and `empty` where there are none.
+#[derive(Clone, Copy)]
+pub struct Bytes<'a>(pub &'a [u8]);
+
+impl fmt::Display for Bytes<'_> {
+    fn fmt<W: fmt::Write>(&self, f: &mut fmt::Formatter<W>) -> fmt::Result {
+        if self.0.is_empty() {
+            return write!(f, "empty");
+        }
+        write!(f, "{}", Hex(self.0))
+    }
+}

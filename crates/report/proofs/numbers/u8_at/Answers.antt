@@ -1,0 +1,9 @@
+-- `report::numbers::u8_at`: the number that the bytes make. Assumes nothing.
+use Rattle.std.proofs.Common.{◌∙◌, List, ℕ, ap}
+use Rattle.std.specs.Int.{w8, from_be_bytes}
+use Rattle.report.proofs.BigEndian.{one}
+use Rattle.report.proofs.numbers.u8_at.Goals as goal
+
+pub returns : goal.returns
+returns c =
+    c.from_be_bytes.ensures ∙ ap (λ (l : List ℕ). from_be_bytes w8 l) c.bytes_at.ensures ∙ one c.args.bytes.now c.args.at c.requires
