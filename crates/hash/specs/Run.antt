@@ -1,4 +1,4 @@
--- Private: runs of blocks, as the block step takes them. Assumes nothing.
+-- Private: runs of blocks, as the functions that go over blocks take them. Assumes nothing.
 use Rattle.std.specs.Prelude.{◌≡◌, ℕ, ◌%◌, List, length}
 
 -- a run: bytes that fill a whole number of blocks of B bytes, zero included

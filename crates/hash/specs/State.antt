@@ -55,7 +55,7 @@ from h ws = record { hash = h; words = ws; count = 0; waiting = replicate larges
 pub fresh_of : Hash → State
 fresh_of h = from h (describe h).first
 
--- what a refused start hands back: zeros that name hash 1
+-- what stands for the state of a refused start: zeros that name hash 1
 pub zero_state : State
 zero_state = from Sha256 (replicate 8 0)
 

@@ -1,6 +1,8 @@
 // The chaining words after runs of blocks, for either hash. A state holds them as 64-bit numbers.
 ghost use Rattle.std.specs.Prelude.{◌≡◌, ◌^◌, true, nat_lt};
 ghost use Rattle.octets.specs.Every.{every};
+ghost use Rattle.algorithm.specs.Hashes.{block_of};
+ghost use Rattle.hash.specs.Run.{Run};
 ghost use Rattle.hash.specs.State.{fit, words_of};
 
 use crate::step;
@@ -42,7 +44,7 @@ pub(crate) fn words_after<'a>(
     first: &'a [u8],
     second: &'a [u8],
 ) -> [u64; 8]
-    requires { fit hash words ≡ true }
+    requires { (fit hash words ≡ true) × (Run (block_of hash) first.now) × (Run (block_of hash) second.now) }
     ensures { result ≡ words_of hash (words_of hash words first.now) second.now }
 {
     let k = Table::new();

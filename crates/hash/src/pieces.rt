@@ -5,6 +5,7 @@ ghost use Rattle.std.proofs.Math.Seq.{paste};
 ghost use Rattle.algorithm.specs.Answers.{number};
 ghost use Rattle.algorithm.specs.Refusals.{most_bytes};
 ghost use Rattle.algorithm.specs.Hashes.{block_of};
+ghost use Rattle.hash.specs.Run.{Run};
 ghost use Rattle.hash.specs.State.{largest_block, fit, words_of, placed, after_of};
 ghost use Rattle.hash.specs.Calls.{fed, UpdateOutcome};
 ghost use Rattle.hash.specs.Inside.{with_waiting, onward_of, Takes, Fills};
@@ -37,7 +38,7 @@ fn placed(bytes: &[u8]) -> [u8; LARGEST_BLOCK]
 // The state that goes on from these words with a run, and then with bytes: the whole blocks of the bytes are a run too, and what they
 // leave waits. `count` is the state's.
 fn onward<'a>(hash: Hash, words: [u64; 8], count: u64, run: &'a [u8], bytes: &'a [u8]) -> State
-    requires { fit hash words ≡ true }
+    requires { (fit hash words ≡ true) × (Run (block_of hash) run.now) }
     ensures { result ≡ onward_of hash (words_of hash words run.now) count bytes.now }
 {
     let cut = bytes.len() - bytes.len() % algorithm::block_size(hash);

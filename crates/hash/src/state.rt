@@ -1,4 +1,4 @@
-// Work in pieces: the state that goes in by value and comes back.
+// Work in pieces: the state that a start makes, and that each piece changes in place.
 ghost use Rattle.std.specs.Prelude.{◌≡◌};
 ghost use Rattle.hash.specs.State.{waiting_count};
 

@@ -1,10 +1,12 @@
 // Bytes of any length from a key, block after block.
-ghost use Rattle.std.specs.Prelude.{◌≡◌, [], ◌∷◌, ◌++◌};
+ghost use Rattle.std.specs.Prelude.{◌≡◌, [], ◌∷◌, ◌++◌, length};
 ghost use Rattle.octets.specs.Zeros.{zeros_to};
 ghost use Rattle.algorithm.specs.Answers.{number};
+ghost use Rattle.algorithm.specs.Hashes.{hash_of};
 ghost use Rattle.hmac.specs.Keyed.{after_keyed, keyed_tag};
+ghost use Rattle.hkdf.specs.Hkdf.{expand_of};
 ghost use Rattle.hkdf.specs.Calls.{ExpandOutcome};
-ghost use Rattle.hkdf.specs.Inside.{Stretchable};
+ghost use Rattle.hkdf.specs.Inside.{Stretchable, Expandable};
 
 use algorithm::{Hash, Refusal};
 use hmac::Keyed;
@@ -21,6 +23,24 @@ fn stretch(keyed: Keyed, last: &[u8], info: &[u8], counter: u8) -> [u8; 64]
     let mut block = [0u8; 64];
     hmac::tag(after, &mut block[..keyed.tag_length]).unwrap();
     block
+}
+
+// The output, block after block. A function of its own, so that the checks come before the space for the keyed state is cleared.
+#[inline(never)]
+fn fill(hash_number: u32, size: usize, prk: &[u8], info: &[u8], out: &mut [u8])
+    requires { Expandable hash_number size prk.now info.now out.old }
+    ensures { out.new ≡ expand_of (hash_of hash_number) prk.now info.now (length out.old) }
+{
+    // The start under the key, for tags of a digest's size, is made once for all blocks.
+    let keyed = hmac::start(hash_number, prk, size).unwrap();
+    // Each block goes after those that are done, and is made from the last of them; before the first there is none. The last block is
+    // cut to the rest.
+    for i in 0..out.len().div_ceil(size) {
+        let (done, rest) = out.split_at_mut(i * size);
+        let last = &done[done.len().saturating_sub(size)..];
+        let block = stretch(keyed, last, info, i as u8 + 1);
+        octets::copy_prefix(&block[..size], rest);
+    }
 }
 
 // As many bytes as the output has, from a key and info; 2 where the number names no hash, 3 where the key is too long, 7 where it is
@@ -42,15 +62,6 @@ pub fn expand(hash_number: u32, prk: &[u8], info: &[u8], out: &mut [u8]) -> Resu
     if algorithm::MOST_DIGESTS * size < out.len() {
         return Err(Refusal::OutputTooLong);
     }
-    // The start under the key, for tags of a digest's size, is made once for all blocks.
-    let keyed = hmac::start(hash_number, prk, size).unwrap();
-    // Each block goes after those that are done, and is made from the last of them; before the first there is none. The last block is
-    // cut to the rest.
-    for i in 0..out.len().div_ceil(size) {
-        let (done, rest) = out.split_at_mut(i * size);
-        let last = &done[done.len().saturating_sub(size)..];
-        let block = stretch(keyed, last, info, i as u8 + 1);
-        octets::copy_prefix(&block[..size], rest);
-    }
+    fill(hash_number, size, prk, info, out);
     Ok(())
 }

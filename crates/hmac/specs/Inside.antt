@@ -1,4 +1,4 @@
--- Private: what the private functions ask and promise, and what the laws of a whole message speak of. Assumes nothing.
+-- Private: a keyed state that has taken a whole message, of which the laws of such a message speak. Assumes nothing.
 use Rattle.std.specs.Prelude.{◌≡◌, true, List, ℕ, ◌-◌, ◌≤◌, length, Result, Ok}
 use Rattle.algorithm.specs.Hashes.{names, hash_of, block_of, allowed}
 use Rattle.algorithm.specs.Refusals.{most_bytes}

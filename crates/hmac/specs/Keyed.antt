@@ -37,7 +37,7 @@ pub record HeldKeyed (k : Keyed) : Type 0 where
 pub fresh_keyed : Hash → List ℕ → ℕ → Keyed
 fresh_keyed h key t = joined (after_of (fresh_of h) (inner_pad h key)) t (after_of (fresh_of h) (outer_pad h key)).words
 
--- what a refused start hands back: zeros that name hash 1
+-- what stands for the keyed state of a refused start: zeros that name hash 1
 pub zero_keyed : Keyed
 zero_keyed = record { hash = Sha256; tag_length = 0; words = replicate 8 0; count = 0; waiting = replicate largest_block 0; outer = replicate 8 0 }
 

@@ -12,7 +12,7 @@ use Rattle.hmac.specs.declared.keyed.Keyed.{Keyed}
 abbrev pub given : Keyed → List ℕ → ℕ × Keyed
 given k p = ((update_of k p).number, (update_of k p).keyed)
 
--- updates, each given the keyed state that the one before handed back, lead from one keyed state to another; the bytes are those of
+-- updates, each given the keyed state that the one before left, lead from one keyed state to another; the bytes are those of
 -- all the pieces, end to end
 pub data Leads : Keyed → List ℕ → Keyed → Type 0 where
   one : {k : Keyed} {p : List ℕ} {f : Fed} → f ≡ update_of k p → Leads k p f.keyed

@@ -1,4 +1,4 @@
-// The keyed state that goes in by value and comes back, and the two states of the hash in it.
+// The keyed state that a start makes and each piece changes in place, and the two states of the hash in it.
 ghost use Rattle.std.specs.Prelude.{◌≡◌};
 ghost use Rattle.hmac.specs.Keyed.{inner_of, outer_of, joined};
 

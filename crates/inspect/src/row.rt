@@ -22,10 +22,17 @@ pub(crate) fn say_names(rt: &impl Print) -> io::Result<()> {
     )
 }
 
-// The line of a report that reading refuses: a stroke in each column of a field.
+// A stroke in each column of a field, from the tenant to the send time and from there to the memory. They stand as text, since a column
+// that is filled up to its width takes many times as long.
+const ORIGIN_STROKES: &str =
+    "          -                    -                    -       -                    -";
+
+const CONTENT_STROKES: &str = "     -                    -                    -";
+
+// The line of a report that reading refuses.
 pub(crate) fn say_refused(rt: &impl Print, at: u64, refusal: Refusal) -> io::Result<()> {
     let words = meanings::words(Err(refusal));
-    say_cells!(rt; at, "-", "-", "-", "-", "-", "-", "-", "-", words, "-")
+    println!(rt; "{at:>20}{ORIGIN_STROKES}{CONTENT_STROKES} {words:<44} -")
 }
 
 // The line of a report that reading lets pass, with a verdict.

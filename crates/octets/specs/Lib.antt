@@ -5,4 +5,5 @@ pub mod Every
 pub mod Same
 pub mod Parts
 pub mod Sums
+pub mod Hex
 pub mod Calls

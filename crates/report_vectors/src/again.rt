@@ -1,4 +1,4 @@
-// Writing a report twice: from a record, and then again from what the other calls answer of what was written.
+// Writing a report again, from what the other calls answer of one that was written.
 ghost use Rattle.std.specs.Prelude.{◌≤◌, length};
 
 use crate::calls;
@@ -93,21 +93,17 @@ fn write_again(
     Ok(())
 }
 
-// Writes a report over `out`. Where it is not refused, its tag is checked, and it is read and written again over `second`.
-pub(crate) fn write_twice(
+// Checks the tag of a report that was written, reads it, and writes it again over `second`.
+pub(crate) fn read_and_write(
     rt: &impl Print,
-    heading: Heading,
-    columns: &Columns<'_>,
+    report: &[u8],
     key: &[u8],
-    out: &mut [u8],
     second: &mut [u8],
 ) -> io::Result<()> {
-    if let Some(report) = calls::write(rt, heading, columns, key, out)? {
-        calls::check(rt, report, key)?;
-        calls::read(rt, report)?;
-        if let Ok(read) = report::read(report) {
-            write_again(rt, read, report, key, second)?;
-        }
+    calls::check(rt, report, key)?;
+    calls::read(rt, report)?;
+    if let Ok(read) = report::read(report) {
+        write_again(rt, read, report, key, second)?;
     }
     Ok(())
 }

@@ -1,4 +1,6 @@
 // The calls on a report, each with a line on what it answers.
+ghost use Rattle.std.specs.Prelude.{◌≤◌, length, IfOk, IfSome};
+
 use crate::say;
 use algorithm::number;
 use cases::Bytes;
@@ -54,10 +56,11 @@ pub(crate) fn write<'a>(
     columns: &Columns<'_>,
     key: &[u8],
     out: &'a mut [u8],
-) -> io::Result<Option<&'a [u8]>> {
+) -> io::Result<Option<&'a [u8]>>
+    ensures { IfOk result (λ written. IfSome written (λ report. length report.now ≤ length out.old)) }
+{
     let written = report::write(heading, columns, key, out);
-    let length = written.unwrap_or(0);
-    println!(rt; "write: {}, {length}, {}", number(written), Bytes(out))?;
+    say::written(rt, written, out)?;
     match written {
         Ok(length) if length <= out.len() => Ok(Some(&out[..length])),
         _ => Ok(None),

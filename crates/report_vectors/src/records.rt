@@ -1,4 +1,6 @@
 // The records of the input, each read and run.
+ghost use Rattle.std.specs.Prelude.{◌≤◌, IfOk};
+
 use crate::{again, calls, ledgers};
 use cases::{Number, Stop};
 use ledger::Submission;
@@ -72,15 +74,22 @@ fn heading(from: &mut impl Read) -> Result<Heading, Stop> {
     })
 }
 
-// Writes a report from its heading and its sites, under the tag key and over an output of the size that follow them.
-fn write(rt: &impl Print, from: &mut impl Read) -> Result<(), Stop> {
+// Writes a report from its heading and its sites, under the tag key that follows them and over an output of the size that comes last;
+// answers the key, the size and the report, none where it is refused. The hint keeps the spaces for the sites out of the frame in which
+// it is written again.
+#[inline(never)]
+fn write_first<'a>(
+    rt: &impl Print,
+    from: &mut impl Read,
+    key_space: &'a mut [u8],
+    out: &'a mut [u8; REPORT],
+) -> Result<(&'a [u8], usize, Option<&'a [u8]>), Stop>
+    ensures { IfOk result (λ first. first.1 ≤ 4096) }
+{
     let mut labels = [0u8; REPORT];
     let mut lengths = [0u32; NUMBERS];
     let mut live = [0u64; NUMBERS];
     let mut blocks = [0u32; NUMBERS];
-    let mut key_space = [0u8; KEY];
-    let mut out = [0xa5u8; REPORT];
-    let mut second = [0xa5u8; REPORT];
     let heading = heading(from)?;
     let columns = Columns {
         labels: cases::string(from, &mut labels)?,
@@ -88,16 +97,21 @@ fn write(rt: &impl Print, from: &mut impl Read) -> Result<(), Stop> {
         live: cases::list(from, &mut live)?,
         blocks: cases::list(from, &mut blocks)?,
     };
-    let key = cases::string(from, &mut key_space)?;
+    let key = cases::string(from, key_space)?;
     let size = cases::size(from, REPORT)?;
-    again::write_twice(
-        rt,
-        heading,
-        &columns,
-        key,
-        &mut out[..size],
-        &mut second[..size],
-    )?;
+    let report = calls::write(rt, heading, &columns, key, &mut out[..size])?;
+    Ok((key, size, report))
+}
+
+// The report that a record writes, and the same written again from what is read of it.
+fn write(rt: &impl Print, from: &mut impl Read) -> Result<(), Stop> {
+    let mut key_space = [0u8; KEY];
+    let mut out = [0xa5u8; REPORT];
+    let mut second = [0xa5u8; REPORT];
+    let (key, size, report) = write_first(rt, from, &mut key_space, &mut out)?;
+    if let Some(report) = report {
+        again::read_and_write(rt, report, key, &mut second[..size])?;
+    }
     Ok(())
 }
 

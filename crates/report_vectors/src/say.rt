@@ -38,6 +38,17 @@ pub(crate) fn site(rt: &impl Print, answered: Result<SiteAt, Refusal>) -> io::Re
     )
 }
 
+// What a write answers, and its output. The hint keeps what printing takes of the stack out of the frame in which a report is written.
+#[inline(never)]
+pub(crate) fn written(
+    rt: &impl Print,
+    written: Result<usize, Refusal>,
+    out: &[u8],
+) -> io::Result<()> {
+    let length = written.unwrap_or(0);
+    println!(rt; "write: {}, {length}, {}", number(written), Bytes(out))
+}
+
 // What a submission answers, and the record of the ledger after it.
 pub(crate) fn submitted(
     rt: &impl Print,

@@ -1,6 +1,7 @@
 -- Proved: laws of what asking for the hash of a number answers, for the layers above: whether the number names a hash, and which.
 -- Assumes nothing.
 use Rattle.std.specs.Prelude.{◌≡◌, refl, Bool, true, false, ℕ, Result, Ok, Err}
+use Rattle.std.specs.Result.{result_or}
 use Rattle.std.proofs.Common.{sym, ap, ◌∙◌}
 use Rattle.algorithm.specs.Hashes.{names, hash_number, hash_of, which_of}
 use Rattle.algorithm.specs.Hashes.Laws.{unknown, known}
@@ -14,10 +15,11 @@ use Rattle.algorithm.specs.declared.hashes.Hash.TheVariants.{Sha256, Sha512}
 use Rattle.algorithm.specs.declared.refusals.Refusal.{Refusal}
 use Rattle.algorithm.specs.declared.refusals.Refusal.TheVariants.{UnknownHash}
 
--- a hash is the one that its number names, and 0 names none
-named_back : (h : Hash) → which_of (hash_number h) ≡ Ok h
-named_back Sha256 = refl
-named_back Sha512 = refl
+-- the value of an answer says which answer it is: a hash is the one that its number names, and the 0 of a refusal names none
+named_back : (r : Result Hash Refusal) → which_of (answer_of r).1 ≡ result_or r (Err UnknownHash)
+named_back (Ok Sha256) = refl
+named_back (Ok Sha512) = refl
+named_back (Err e) = refl
 
 -- so the promise fixes the answer
 pub which_told : (n : ℕ) {r : Result Hash Refusal} → WhichOutcome n r → r ≡ which_of n
@@ -26,7 +28,7 @@ which_told n {r} o = by_case r (names n) refl o
     by_case : (r : Result Hash Refusal) (b : Bool) → names n ≡ b → WhichOutcome n r → r ≡ which_of n
     by_case (Ok h) true e o =
         let d : decided (which_checks n) n 0 ≡ n = rw e in
-        sym (named_back h) ∙ ap (λ (a : ℕ × ℕ). which_of a.1) o ∙ ap which_of d
+        sym (named_back (Ok h)) ∙ ap (λ (a : ℕ × ℕ). which_of a.1) o ∙ ap which_of d
     by_case (Ok h) false e o =
         let f : first_failing (which_checks n) ≡ unknown_hash = rw e in
         absurd (refusal_not_done UnknownHash (sym (ap (λ (a : ℕ × ℕ). a.0) o ∙ f)))

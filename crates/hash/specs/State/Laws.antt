@@ -177,7 +177,7 @@ pub fresh_count : (h : Hash) → (fresh_of h).count ≡ 0
 unfolding fresh_of
 fresh_count h = refl
 
--- and so is what a refused start hands back: it goes on from zero words
+-- and so is what stands for the state of a refused start: it goes on from zero words
 zero_fits : fit Sha256 (replicate 8 0) ≡ true
 unfolding every describe narrow
 zero_fits = refl
@@ -224,7 +224,7 @@ pub end_fresh : (h : Hash) (m : List ℕ) → end_of (after_of (fresh_of h) m) �
 unfolding fresh_of
 end_fresh h m = end_from h (describe h).first m ∙ sym (digest_is h m)
 
--- and what a refused start handed back goes on from zero words
+-- and what stands for the state of a refused start goes on from zero words
 pub end_zero : (m : List ℕ) → end_of (after_of zero_state m) ≡ keep (describe Sha256) (foldl (step (describe Sha256).core) (replicate 8 0) (blocks_of Sha256 m))
 unfolding zero_state
 end_zero m = end_from Sha256 (replicate 8 0) m

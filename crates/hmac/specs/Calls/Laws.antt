@@ -67,7 +67,7 @@ module _ (k : Keyed) (p : List ℕ) where
   unfolding update_of
   update_accepted h l = rw (h, le-leb (k.count + length p) most_bytes l)
 
-  -- an accepted piece is taken, and a refused one hands the given state back
+  -- an accepted piece is taken, and a refused one leaves the given state as it was
   pub taken_after : (update_of k p).number ≡ done → (update_of k p).keyed ≡ after_keyed k p
   unfolding update_of
   taken_after d = done_work (update_checks k p) (after_keyed k p) k d

@@ -146,7 +146,7 @@ module _ (h : Hash) (key : List ℕ) (t : ℕ) where
       (omega (arith, keyed_count, ap block_of keyed_hash))
       ((λ i. allowed (keyed_hash i) (keyed_length i)) ∙ asked)
 
--- what a refused start hands back is not sound, for two reasons: its count is below a block, and its tag length out of range
+-- what stands for the keyed state of a refused start is not sound, for two reasons: its count is below a block, and its tag length out of range
 pub zero_count_lem : zero_keyed.count < block_of zero_keyed.hash
 unfolding zero_keyed
 zero_count_lem = lit< tt

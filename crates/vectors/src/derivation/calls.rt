@@ -46,7 +46,8 @@ pub(crate) fn extract(
     extract_to(rt, hash_number, salt, material, &mut out[..size.min(65)])
 }
 
-// Into an output of some bytes, at most 16,321.
+// Into an output of some bytes, at most 16,321. The hint keeps that space out of its callers' frames.
+#[inline(never)]
 pub(crate) fn expand(
     rt: &impl Print,
     hash_number: u32,

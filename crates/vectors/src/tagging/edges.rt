@@ -38,7 +38,7 @@ pub(crate) fn starts(rt: &impl Print) -> io::Result<()> {
     Ok(())
 }
 
-// What a start answers and hands back, in full.
+// What a start answers, and the keyed state that it makes, or zeros for a refused one, in full.
 fn started(rt: &impl Print, number: u32, key: &[u8], tag_length: usize) -> io::Result<Keyed> {
     let started = hmac::start(number, key, tag_length);
     let keyed = started.unwrap_or_default();

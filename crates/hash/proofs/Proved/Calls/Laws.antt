@@ -36,7 +36,7 @@ module _ (s : State) (p : List ℕ) where
   unfolding update_of
   update_accepted h l = rw (h, le-leb (s.count + length p) most_bytes l)
 
-  -- a refused piece hands the given state back
+  -- a refused piece leaves the given state as it was
   pub refused_same : ((update_of s p).number ≢ done) → (update_of s p).state ≡ s
   unfolding update_of
   refused_same z = refused_given (update_checks s p) (after_of s p) s z
@@ -106,7 +106,7 @@ pub digest_done : (n : ℕ) (m out : List ℕ) → (digest_answer n m out).0 ≡
 unfolding digest_answer
 digest_done n m out = exactly_done (digest_checks n m out) (refuses _ _ (refuses _ _ (refuses _ _ none)))
 
--- every start hands back a sound state, also a refused one
+-- the state of every start is sound, and so is what stands for that of a refused one
 pub start_held : (n : ℕ) → Held (start_of n).state
 start_held n = by_case (names n) refl
   where

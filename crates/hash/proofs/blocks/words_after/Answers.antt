@@ -7,7 +7,7 @@ use Rattle.hash.proofs.blocks.words_after.Goals as goal
 
 pub loop-init : goal.loop-init
 unfolding words_at run_at
-loop-init c = (c.requires, refl, refl)
+loop-init c = (c.requires.0, refl, refl)
 
 pub loop-preserved : goal.loop-preserved
 unfolding words_at run_at

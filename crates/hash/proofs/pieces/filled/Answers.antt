@@ -7,6 +7,13 @@ use Rattle.hash.specs.Blocks.Laws.{run_block}
 use Rattle.hash.specs.State.Open.{filled_after}
 use Rattle.hash.proofs.pieces.filled.Goals as goal
 
+pub onward-requires : goal.onward-requires
+onward-requires c =
+    let s = c.args.state.now in
+    let block = c.put_at in
+    let l = length-take-le (c.args.at + c.args.room) block.new.out (omega (arith, block_most s.hash, c.requires.fills, block.auto.out)) in
+    (c.requires.words, run_block (block_of s.hash) (take (c.args.at + c.args.room) block.new.out) (l ∙ c.requires.fills))
+
 pub returns : goal.returns
 returns c =
     let s = c.args.state.now in

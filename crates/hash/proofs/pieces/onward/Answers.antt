@@ -4,8 +4,12 @@ use Rattle.algorithm.specs.Hashes.Laws.{block_positive}
 use Rattle.hash.specs.Description.{describe}
 use Rattle.hash.specs.Sha2.{step}
 use Rattle.hash.specs.State.{words_of}
-use Rattle.hash.specs.Blocks.Laws.{left_part, words_cut}
+use Rattle.hash.specs.Blocks.Laws.{cut_run, left_part, words_cut}
 use Rattle.hash.proofs.pieces.onward.Goals as goal
+
+pub words_after-requires : goal.words_after-requires
+words_after-requires c =
+    (c.requires.0, c.requires.1, rw c.block_size.ensures (cut_run (block_of c.args.hash) c.args.bytes.now))
 
 pub returns : goal.returns
 returns c =

@@ -3,7 +3,7 @@ use Rattle.std.proofs.Common.{ℕ, ◌+◌, List, length, sym, ap, ◌∙◌, ar
 use Rattle.algorithm.specs.Hashes.{block_of}
 use Rattle.algorithm.specs.Hashes.Laws.{block_positive}
 use Rattle.hash.specs.Description.{describe}
-use Rattle.hash.specs.Blocks.Laws.{words_none}
+use Rattle.hash.specs.Blocks.Laws.{run_none, words_none}
 use Rattle.hash.specs.Sha2.{step}
 use Rattle.hash.specs.Inside.{onward_of}
 use Rattle.hash.specs.State.Laws.{waiting_less, sound_words}
@@ -19,7 +19,8 @@ returns-then-piece-room c =
     (appended_after s c.args.piece.now (omega arith) c.requires.sound (omega (arith, waits, c.block_size.ensures, waiting_less s)))
 
 pub onward-requires : goal.onward-requires
-onward-requires c = sound_words c.args.state.now c.requires.sound
+onward-requires c =
+    (sound_words c.args.state.now c.requires.sound, run_none (block_of c.args.state.now.hash))
 
 pub returns-then-at-eq0 : goal.returns-then-at-eq0
 returns-then-at-eq0 c =

@@ -63,32 +63,7 @@ module _ (rs : List Record) (x : Submission) where
         by_tests false false false = refl
         by_tests false false true = refl
 
--- a report that was judged for the records: what a submission of it answers, where it is refused, and where it is entered
-module _ (rs : List Record) (x : Submission) {t : Tally} (k : t ≡ tally_of rs) where
-  by_sound : {p : ℕ × Record} → p ≡ judged_in t x → p ≡ cond (sound rs) (judged_of x) (state_not_sound, zero_record)
-  by_sound h = h ∙ rw (k, sound_is rs)
-
-  pub refused_is : (e : Refusal) → judged_by (Err e) ≡ judged_in t x → (Refused (number_of e), rs) ≡ submit_answer rs x
-  unfolding judged_of
-  refused_is e h = elim (test (sound rs)) [
-    | no f ↦ rw (ap (λ (p : ℕ × Record). p.0) (rw f at (by_sound h))) (sym (submit_unsound rs x f))
-    | yes g ↦
-        let n : number_of e ≡ first_failing (report_checks x) = ap (λ (p : ℕ × Record). p.0) (rw g at (by_sound h)) in
-        rw n (sym (submit_bad rs x g (λ d. refusal_not_done e (n ∙ d))))
-  ]
-
-  pub accepted_is : (r : Record) → judged_by (Ok r) ≡ judged_in t x → enter_of t r rs ≡ submit_answer rs x
-  unfolding judged_of
-  accepted_is r h = elim (test (sound rs)) [
-    | no f ↦ let n : done ≡ state_not_sound = ap (λ (p : ℕ × Record). p.0) (rw f at (by_sound h)) in absurd (omega (arith, n))
-    | yes g ↦
-        let j = rw g at (by_sound h) in
-        let d : first_failing (report_checks x) ≡ done = sym (ap (λ (p : ℕ × Record). p.0) j) in
-        let is : r ≡ record_of x = ap (λ (p : ℕ × Record). p.1) j ∙ done_work (report_checks x) (record_of x) zero_record d in
-        rw (k, enter_accepted rs g r, is) (sym (submit_placed rs x g d))
-  ]
-
--- so what becomes of a report that was judged for the records is what a submission answers and leaves
+-- what becomes of a report that was judged for the records is what a submission answers and leaves
 pub submit_is : (rs : List Record) (x : Submission) → entered_judged (tally_of rs) (judged_in (tally_of rs) x) rs ≡ submit_answer rs x
 unfolding judged_of
 submit_is rs x = rw (sound_is rs) (by_sound (sound rs) refl)
@@ -101,3 +76,14 @@ submit_is rs x = rw (sound_is rs) (by_sound (sound rs) refl)
       | Prim.yes d ↦
           rw (d, enter_accepted rs e (record_of x)) (sym (submit_placed rs x e d))
     ]
+
+-- so this is what a submission answers where it is refused, and where its record is entered
+module _ (rs : List Record) (x : Submission) {t : Tally} (k : t ≡ tally_of rs) where
+  judged_is : (j : ℕ × Record) → j ≡ judged_in t x → entered_judged t j rs ≡ submit_answer rs x
+  judged_is j h = (λ i. entered_judged (k i) ((h ∙ ap (λ (u : Tally). judged_in u x) k) i) rs) ∙ submit_is rs x
+
+  pub refused_is : (e : Refusal) → judged_by (Err e) ≡ judged_in t x → (Refused (number_of e), rs) ≡ submit_answer rs x
+  refused_is e h = sym (enter_refused t rs (judged_by (Err e)) (refusal_not_done e)) ∙ judged_is (judged_by (Err e)) h
+
+  pub accepted_is : (r : Record) → judged_by (Ok r) ≡ judged_in t x → enter_of t r rs ≡ submit_answer rs x
+  accepted_is r h = judged_is (judged_by (Ok r)) h
